@@ -1,0 +1,22 @@
+-- The number and the place of each refusal, and how it is written.
+use mathlib.Core.List.{List, _++_}
+use Prim.Native.Nat.{ℕ}
+use lib.Chars.{codes}
+use Rattle.std.specs.Written.{decimal}
+use Rattle.refusal.specs.declared.Limit.{Limit}
+use Rattle.refusal.specs.declared.Limit.the-variants.{Pages, PageLength}
+use Rattle.refusal.specs.declared.Refusal.{Refusal}
+use Rattle.refusal.specs.declared.Refusal.the-variants.{Size}
+
+abbrev pub number : Refusal → ℕ
+number (Size limit) = 1
+
+abbrev pub limit-place : Limit → ℕ
+limit-place Pages = 3
+limit-place PageLength = 7
+
+abbrev pub place : Refusal → ℕ
+place (Size limit) = limit-place limit
+
+abbrev pub refusal-text : Refusal → List ℕ
+refusal-text r = codes "refused " ++ (decimal (number r) ++ (codes " " ++ decimal (place r)))

@@ -1,0 +1,54 @@
+// Refusals: each has a number and a place, and says what was wrong where.
+ghost use mathlib.Core.Path.{_≡_};
+ghost use mathlib.Core.List.{_++_};
+ghost use lib.Chars.{codes};
+ghost use Rattle.std.specs.Written.{decimal};
+ghost use Rattle.std.specs.declared.option.Option.the-variants.{Some};
+ghost use Rattle.refusal.specs.Numbers;
+ghost use Rattle.refusal.specs.Numbers.{refusal-text};
+use std::fmt;
+
+#[derive(Clone, Copy, PartialEq, Eq, Debug)]
+pub enum Refusal {
+    // A number is outside its limits.
+    Size(Limit),
+}
+
+// The number that is outside its limits.
+#[derive(Clone, Copy, PartialEq, Eq, Debug)]
+pub enum Limit {
+    // how many pages a job, a card or a farm has
+    Pages,
+    // how many bytes a page has
+    PageLength,
+}
+
+impl Refusal {
+    pub fn number(self) -> u32
+        ensures { λ r. ⌜ r ≡ Numbers.number self ⌝ }
+    {
+        match self {
+            Refusal::Size(_) => 1,
+        }
+    }
+
+    pub fn place(self) -> usize
+        ensures { λ r. ⌜ r ≡ Numbers.place self ⌝ }
+    {
+        match self {
+            Refusal::Size(Limit::Pages) => 3,
+            Refusal::Size(Limit::PageLength) => 7,
+        }
+    }
+}
+
+// `refused NUMBER PLACE`
+pub impl fmt::Display for Refusal as RefusalDisplay {
+    ghost shown = { λ r. Some (refusal-text r) };
+
+    fn fmt<W: fmt::Write>(&self, f: &mut fmt::Formatter<W>) -> fmt::Result {
+        let number = self.number();
+        let place = self.place();
+        write!(f, "refused {number} {place}")
+    }
+}
