@@ -1,6 +1,6 @@
 -- What a finite field is: its numbers, its operations and their laws.
 use mathlib.Core.Path.{_≡_}
-use Prim.Native.Nat.{ℕ, zero, suc, _%_, _^_, _<_, _≤_}
+use Prim.Native.Nat.{ℕ, zero, suc, _%_, _^_, _<_, _≤_, min}
 
 -- The elements are the codes 0 to size - 1. An operation takes any word and counts it modulo the size.
 pub record Ops : Type 0 where
@@ -12,6 +12,10 @@ pub record Ops : Type 0 where
   pub times : ℕ → ℕ → ℕ
   pub inverse : ℕ → ℕ
   pub alpha : ℕ
+
+-- how many pages a job may have
+abbrev pub page-limit : Ops → ℕ
+page-limit f = min 1920 (f .places)
 
 -- a to the power n
 abbrev pub power : Ops → ℕ → ℕ → ℕ

@@ -1,10 +1,10 @@
 -- Pages of a job, the bytes that a signature runs over, and signatures.
 use mathlib.Core.List.{List, [], _∷_, _++_}
-use Prim.Native.Nat.{ℕ, zero, suc, _+_, _-_, _*_, _/_, _%_, _≤_, min}
+use Prim.Native.Nat.{ℕ, zero, suc, _+_, _-_, _*_, _/_, _%_, min}
 use lib.ListN.{length, take, drop, replicate}
 use Rattle.std.specs.Iters.{folded}
-use Rattle.field.specs.Field.{Ops}
-use Rattle.refusal.specs.Rules.{Rule, unless}
+use Rattle.field.specs.Field.{Ops, page-limit}
+use Rattle.refusal.specs.Rules.{Rule, Within, unless}
 
 -- how many pages of L bytes a job has: the whole ones, and a short last one for what is left
 abbrev pub page-count : ℕ → ℕ → ℕ
@@ -28,13 +28,6 @@ signature f bytes = folded (absorb f) 0 bytes
 
 abbrev pub page-signature : Ops → ℕ → List ℕ → ℕ → ℕ
 page-signature f L job n = signature f (signed-bytes L (page-bytes L job n))
-
-abbrev pub Within : ℕ → ℕ → ℕ → Type 0
-Within least most n = (least ≤ n) × (n ≤ most)
-
--- how many pages a job may have in a field
-abbrev pub page-limit : Ops → ℕ
-page-limit f = min 1920 (f .places)
 
 -- what is refused of a job: a page length outside 1 to 4,096, then too few or too many pages
 abbrev pub cutting : Ops → ℕ → ℕ → List Rule

@@ -4,19 +4,22 @@ use Prim.Native.Nat.{ℕ}
 use lib.Chars.{codes}
 use Rattle.std.specs.Written.{decimal}
 use Rattle.refusal.specs.declared.Limit.{Limit}
-use Rattle.refusal.specs.declared.Limit.the-variants.{Pages, PageLength}
+use Rattle.refusal.specs.declared.Limit.the-variants.{Pages, Sums, PageLength}
 use Rattle.refusal.specs.declared.Refusal.{Refusal}
-use Rattle.refusal.specs.declared.Refusal.the-variants.{Size}
+use Rattle.refusal.specs.declared.Refusal.the-variants.{Size, Garbled}
 
 abbrev pub number : Refusal → ℕ
 number (Size limit) = 1
+number (Garbled position) = 8
 
 abbrev pub limit-place : Limit → ℕ
 limit-place Pages = 3
+limit-place Sums = 6
 limit-place PageLength = 7
 
 abbrev pub place : Refusal → ℕ
 place (Size limit) = limit-place limit
+place (Garbled position) = position
 
 abbrev pub refusal-text : Refusal → List ℕ
 refusal-text r = codes "refused " ++ (decimal (number r) ++ (codes " " ++ decimal (place r)))

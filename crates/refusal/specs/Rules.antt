@@ -2,9 +2,12 @@
 use mathlib.Core.Path.{_≡_}
 use mathlib.Core.List.{List, [], _∷_}
 use mathlib.Core.Logic.{_⊎_}
-use Prim.Native.Nat.{ℕ}
+use Prim.Native.Nat.{ℕ, _<_, _≤_}
 use Rattle.refusal.specs.declared.Refusal.{Refusal}
 use Rattle.refusal.specs.Numbers.{number, place}
+
+abbrev pub Within : ℕ → ℕ → ℕ → Type 0
+Within least most n = (least ≤ n) × (n ≤ most)
 
 -- when it refuses, and by what; and what is known where it does not
 pub record Rule : Type 1 where
@@ -14,6 +17,10 @@ pub record Rule : Type 1 where
 -- refuse by number n at place k unless p holds
 abbrev pub unless : Type 0 → ℕ → ℕ → Rule
 unless p n k = record { due = λ r. (p → ⊥) × (number r ≡ n) × (place r ≡ k); clear = p }
+
+-- refuse by number n, at the lowest place k, from 1, at which p holds
+abbrev pub lowest : (ℕ → Type 0) → ℕ → Rule
+lowest p n = record { due = λ r. (number r ≡ n) × (1 ≤ place r) × p (place r) × ((k : ℕ) → 1 ≤ k → k < place r → p k → ⊥); clear = (k : ℕ) → 1 ≤ k → p k → ⊥ }
 
 abbrev pub Refused : List Rule → Refusal → Type 0
 Refused [] r = ⊥

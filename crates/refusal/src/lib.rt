@@ -12,6 +12,8 @@ use std::fmt;
 pub enum Refusal {
     // A number is outside its limits.
     Size(Limit),
+    // A word is missing, surplus, of a wrong kind or no code; the place is its position, from 1.
+    Garbled(usize),
 }
 
 // The number that is outside its limits.
@@ -19,6 +21,8 @@ pub enum Refusal {
 pub enum Limit {
     // how many pages a job, a card or a farm has
     Pages,
+    // how many sums a difference is solved from
+    Sums,
     // how many bytes a page has
     PageLength,
 }
@@ -29,6 +33,7 @@ impl Refusal {
     {
         match self {
             Refusal::Size(_) => 1,
+            Refusal::Garbled(_) => 8,
         }
     }
 
@@ -37,7 +42,9 @@ impl Refusal {
     {
         match self {
             Refusal::Size(Limit::Pages) => 3,
+            Refusal::Size(Limit::Sums) => 6,
             Refusal::Size(Limit::PageLength) => 7,
+            Refusal::Garbled(position) => position,
         }
     }
 }

@@ -12,7 +12,7 @@ loop-x-holds c = (inverse-first (c .args .a), lit< tt, mod-lt (c .args .a) (lit<
 
 pub loop-x-again : need.loop-x-again
 loop-x-again c =
-    (inverse-turn (c .loop-x .scale) (c .loop-x .x) (c .loop-x-test .taken) ∙ c .loop-x .inv .0, mod-lt _ (lit< tt), omega (arith, c .loop-x .inv .2, mod-lt 65537 {m = c .loop-x .x} (omega arith)))
+    (inverse-turn (c .loop-x .scale) (c .loop-x .x) (omega arith) ∙ c .loop-x .inv .0, mod-lt _ (lit< tt), omega (arith, c .loop-x .inv .2, mod-lt 65537 {m = c .loop-x .x} (omega arith)))
 
 pub returns : need.returns
-returns c = ap (λ y. y % 65537) (sym (inverse-last (c .loop-x .scale) (c .loop-x .x) (c .loop-x-test .left))) ∙ c .loop-x .inv .0
+returns c = ap (λ y. y % 65537) (sym (inverse-last (c .loop-x .scale) (c .loop-x .x) (omega arith))) ∙ c .loop-x .inv .0
