@@ -21,7 +21,12 @@ pub fn card_text<F: Field>(heap: Global, length: usize, job: &[u8]) -> Result<Ve
     }
 }
 
-fn whole_card<F: Field>(heap: Global, length: usize, job: &[u8], pages: usize) -> Result<Vec<u8>, AllocError>
+fn whole_card<F: Field>(
+    heap: Global,
+    length: usize,
+    job: &[u8],
+    pages: usize,
+) -> Result<Vec<u8>, AllocError>
     ensures { λ r. ⌜ made r (λ out. vec-items out ≡ page-lines (page-signature (F·Field .ops) length (now (job .entry))) pages ++ last-line pages) ⌝ }
 {
     let mut out = page_bytes::<F>(heap, length, job, pages)?;
@@ -30,7 +35,12 @@ fn whole_card<F: Field>(heap: Global, length: usize, job: &[u8], pages: usize) -
     Ok(out)
 }
 
-fn page_bytes<F: Field>(heap: Global, length: usize, job: &[u8], pages: usize) -> Result<Vec<u8>, AllocError>
+fn page_bytes<F: Field>(
+    heap: Global,
+    length: usize,
+    job: &[u8],
+    pages: usize,
+) -> Result<Vec<u8>, AllocError>
     ensures { λ r. ⌜ made r (λ out. vec-items out ≡ page-lines (page-signature (F·Field .ops) length (now (job .entry))) pages) ⌝ }
 {
     let mut out = Vec::new(heap);

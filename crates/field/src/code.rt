@@ -14,5 +14,4 @@ pub fn is_code<F: Field>(word: u32) -> bool
 // A theorem of every field: each call counts its words modulo the size.
 pub fn words_count_modulo<F: Field>()
     ensures { λ _. ⌜ Modular (F·Field .ops) ⌝ }
-{
-}
+{}

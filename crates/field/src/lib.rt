@@ -2,6 +2,7 @@
 ghost use mathlib.Core.Path.{_≡_};
 ghost use Prim.Native.Nat.{ℕ};
 ghost use Rattle.field.specs.Field.{Ops, Laws, Spread, power};
+
 mod code;
 
 pub use code::is_code;

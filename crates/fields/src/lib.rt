@@ -1,7 +1,7 @@
-// The three fields, by name.
+// The three fields, by name and by number.
 ghost use mathlib.Core.Path.{_≡_};
 ghost use Rattle.std.specs.declared.option.Option.the-variants.{Some, None};
-ghost use Rattle.fields.specs.Names.{name-of};
+ghost use Rattle.fields.specs.Names.{name-of, number-of};
 ghost use Rattle.fields.specs.declared.FieldName.{FieldName as Name};
 
 #[derive(Clone, Copy, PartialEq, Eq, Debug)]
@@ -20,6 +20,18 @@ impl FieldName {
             "small" => Some(FieldName::Small),
             "wide" => Some(FieldName::Wide),
             "prime" => Some(FieldName::Prime),
+            _ => None,
+        }
+    }
+
+    // The field with this number: 1 small, 2 wide, 3 prime.
+    pub fn numbered(number: u32) -> Option<FieldName>
+        ensures { λ r. ⌜ elim r [ Some field ↦ number ≡ number-of field | None ↦ ((field : Name) → number ≡ number-of field → ⊥) ] ⌝ }
+    {
+        match number {
+            1 => Some(FieldName::Small),
+            2 => Some(FieldName::Wide),
+            3 => Some(FieldName::Prime),
             _ => None,
         }
     }

@@ -9,6 +9,7 @@ use refusal::Refusal;
 
 // The longest page, and the most pages in any field.
 const PAGE_LENGTH_LIMIT: usize = 4096;
+
 const PAGE_LIMIT: usize = 1920;
 
 // The number of pages of a job of so many bytes. Refused: the page length, then the number of pages.

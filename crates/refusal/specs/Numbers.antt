@@ -6,11 +6,12 @@ use Rattle.std.specs.Written.{decimal}
 use Rattle.refusal.specs.declared.Limit.{Limit}
 use Rattle.refusal.specs.declared.Limit.the-variants.{Pages, Sums, PageLength}
 use Rattle.refusal.specs.declared.Refusal.{Refusal}
-use Rattle.refusal.specs.declared.Refusal.the-variants.{Size, Garbled}
+use Rattle.refusal.specs.declared.Refusal.the-variants.{Size, Garbled, Foreign}
 
 abbrev pub number : Refusal → ℕ
 number (Size limit) = 1
 number (Garbled position) = 8
+number (Foreign position) = 9
 
 abbrev pub limit-place : Limit → ℕ
 limit-place Pages = 3
@@ -20,6 +21,7 @@ limit-place PageLength = 7
 abbrev pub place : Refusal → ℕ
 place (Size limit) = limit-place limit
 place (Garbled position) = position
+place (Foreign position) = position
 
 abbrev pub refusal-text : Refusal → List ℕ
 refusal-text r = codes "refused " ++ (decimal (number r) ++ (codes " " ++ decimal (place r)))

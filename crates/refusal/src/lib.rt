@@ -14,6 +14,8 @@ pub enum Refusal {
     Size(Limit),
     // A word is missing, surplus, of a wrong kind or no code; the place is its position, from 1.
     Garbled(usize),
+    // A header word is not the request's; the place is its position.
+    Foreign(usize),
 }
 
 // The number that is outside its limits.
@@ -34,6 +36,7 @@ impl Refusal {
         match self {
             Refusal::Size(_) => 1,
             Refusal::Garbled(_) => 8,
+            Refusal::Foreign(_) => 9,
         }
     }
 
@@ -45,6 +48,7 @@ impl Refusal {
             Refusal::Size(Limit::Sums) => 6,
             Refusal::Size(Limit::PageLength) => 7,
             Refusal::Garbled(position) => position,
+            Refusal::Foreign(position) => position,
         }
     }
 }

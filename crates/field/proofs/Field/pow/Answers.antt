@@ -20,11 +20,11 @@ loop-left-again g c =
     let p = c .loop-left .product in
     let squared = c .mul-base .ensures in
     elim (c .if-left-eq1 .came) [
-      then-left-eq1 w ↦ (
+      | then-left-eq1 w ↦ (
         (let turn = square-odd l p b n (w .if-left-eq1 .taken) in cc),
         subst (λ (x : ℕ). x < f .size) (sym (w .product-is ∙ w .mul-product .ensures)) (l .times-code p b),
       )
-    | else-left-eq1 w ↦ (
+      | else-left-eq1 w ↦ (
         (let turn = square-even l p b n (w .if-left-eq1 .left) in cc),
         subst (λ (x : ℕ). x < f .size) (sym (w .product-is)) (c .loop-left .inv .1),
       )

@@ -1,0 +1,113 @@
+// Tests of the fields, signatures and sums against values that other implementations and the literature give.
+#[cfg(test)]
+mod arithmetic;
+#[cfg(test)]
+mod cards_written;
+#[cfg(test)]
+mod jobs;
+#[cfg(test)]
+mod powers;
+
+#[cfg(test)]
+mod tests {
+    use crate::arithmetic;
+    use crate::cards_written;
+    use crate::jobs;
+    use crate::jobs::Case;
+    use crate::powers::PUBLISHED;
+    use binary::Small;
+    use binary::SmallField;
+    use binary::Wide;
+    use binary::WideField;
+    use field::Field;
+    use prime::Prime;
+    use prime::PrimeField;
+    use std::test::*;
+
+    fn check_arithmetic<F: Field>(cases: &[[u32; 6]]) -> Result<(), Fail> {
+        for case in cases {
+            let [a, b, sum, difference, product, inverse] = *case;
+            check_eq(F::add(a, b), sum)?;
+            check_eq(F::sub(a, b), difference)?;
+            check_eq(F::mul(a, b), product)?;
+            check_eq(F::inv(a), inverse)?;
+        }
+        Ok(())
+    }
+
+    fn check_job<F: Field>(case: &Case) -> Result<(), Fail> {
+        for (before, signature) in case.row.iter().enumerate() {
+            check_eq(
+                page::page_signature::<F>(case.job, case.length, before + 1),
+                *signature,
+            )?;
+        }
+        for (before, sum) in case.sums.iter().enumerate() {
+            check_eq(page::row_sum::<F>(case.row, before + 1), *sum)?;
+        }
+        Ok(())
+    }
+
+    #[test]
+    fn arithmetic_of_small() -> Result<(), Fail> {
+        check_arithmetic::<Small>(&arithmetic::SMALL)
+    }
+
+    #[test]
+    fn arithmetic_of_wide() -> Result<(), Fail> {
+        check_arithmetic::<Wide>(&arithmetic::WIDE)
+    }
+
+    #[test]
+    fn arithmetic_of_prime() -> Result<(), Fail> {
+        check_arithmetic::<Prime>(&arithmetic::PRIME)
+    }
+
+    #[test]
+    fn jobs_in_small() -> Result<(), Fail> {
+        for case in &jobs::SMALL {
+            check_job::<Small>(case)?;
+        }
+        Ok(())
+    }
+
+    #[test]
+    fn jobs_in_wide() -> Result<(), Fail> {
+        for case in &jobs::WIDE {
+            check_job::<Wide>(case)?;
+        }
+        Ok(())
+    }
+
+    #[test]
+    fn jobs_in_prime() -> Result<(), Fail> {
+        for case in &jobs::PRIME {
+            check_job::<Prime>(case)?;
+        }
+        Ok(())
+    }
+
+    // By the table, by squaring and one step at a time.
+    #[test]
+    fn published_powers() -> Result<(), Fail> {
+        let mut step = 1;
+        for (n, power) in PUBLISHED.iter().enumerate() {
+            check_eq(Small::alpha_pow(n), *power)?;
+            check_eq(Small::pow(2, n), *power)?;
+            check_eq(step, *power)?;
+            step = Small::alpha_add(step, 0);
+        }
+        check_eq(step, 1)
+    }
+
+    #[test]
+    fn cards_and_refusals(rt: LibcRuntime) -> Result<(), Fail> {
+        let heap = rt.alloc();
+        for case in &cards_written::CASES {
+            let job = vec![in heap; 1u8; case.bytes]?;
+            let text = cards::card_in(heap, case.field, case.length, job.as_slice())?;
+            check(text.as_slice() == case.text)?;
+        }
+        Ok(())
+    }
+}
