@@ -23,6 +23,12 @@ abbrev pub weight : ℕ → (ℕ → ℕ) → ℕ
 weight zero e = 0
 weight (suc N) e = counted (e (suc N)) (weight N e)
 
+-- e is a vector of codes, at most t of them not 0, and its sums 1 .. J are those of s
+pub record Solves (f : Ops) (N t J : ℕ) (s e : ℕ → ℕ) : Type 0 where
+  pub codes : Codes f N e
+  pub light : weight N e ≤ t
+  pub sums : (j : ℕ) → Page J j → power-sum f N e j ≡ s j
+
 -- d and e have the same sums 1 .. J
 abbrev pub SameSums : Ops → (N J : ℕ) → (d e : ℕ → ℕ) → Type 0
 SameSums f N J d e = (j : ℕ) → 1 ≤ j → j ≤ J → power-sum f N d j ≡ power-sum f N e j

@@ -1,0 +1,4 @@
+pub mod Header
+pub mod Replies
+pub mod Written
+pub mod ReadBack
