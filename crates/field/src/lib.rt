@@ -4,9 +4,11 @@ ghost use Prim.Native.Nat.{ℕ};
 ghost use Rattle.field.specs.Field.{Ops, Laws, Spread, power};
 
 mod code;
+mod limits;
 
 pub use code::is_code;
 pub use code::words_count_modulo;
+pub use limits::page_limit;
 
 // The elements are codes, 0 to SIZE - 1. A call takes any word and counts it modulo SIZE.
 pub trait Field {

@@ -92,8 +92,8 @@ module _ (f : Ops) (l : Laws f) (q : Request) (values : List ℕ) (count : lengt
   whole = record {
     count = length-append (request-words q) (map (word 6) values) ∙ ap (λ n. 4 + n) (length-map values (word 6) ∙ count);
     each = λ k from to.
-      ⊎-elim (λ low. header-formed q (f .size) (map (word 6) values) k from (omega arith))
-      (λ high. value-formed k high (omega (arith, length-append (request-words q) (map (word 6) values), length-map values (word 6)))) (cases-lt k 5);
+        ⊎-elim (λ low. header-formed q (f .size) (map (word 6) values) k from (omega arith))
+        (λ high. value-formed k high (omega (arith, length-append (request-words q) (map (word 6) values), length-map values (word 6)))) (cases-lt k 5);
   }
 
 pub replies-read-back : Replies-read-back

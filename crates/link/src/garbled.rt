@@ -25,7 +25,8 @@ pub(crate) fn first_garbled(limit: u32, values: usize, words: &[u32]) -> Option<
     requires { ⌜ values < 2 ^ 32 ⌝ }
     ensures { λ r. ⌜ elim r [
       | Some position ↦ (1 ≤ position) × Garbled-at limit values (now (words .entry)) position × ((k : ℕ) → 1 ≤ k → k < position → Garbled-at limit values (now (words .entry)) k → ⊥)
-      | None ↦ Whole limit values (now (words .entry)) ] ⌝ }
+      | None ↦ Whole limit values (now (words .entry))
+    ] ⌝ }
 {
     for (before, word) in words.iter().enumerate() {
         if before >= 4 + values {

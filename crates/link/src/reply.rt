@@ -40,7 +40,8 @@ fn first_foreign(
 ) -> Option<usize>
     ensures { λ r. ⌜ elim r [
       | Some position ↦ (1 ≤ position) × Foreign-at (now (request .entry)) (check ∷ station ∷ first ∷ last ∷ []) position × ((k : ℕ) → 1 ≤ k → k < position → Foreign-at (now (request .entry)) (check ∷ station ∷ first ∷ last ∷ []) k → ⊥)
-      | None ↦ check ∷ station ∷ first ∷ last ∷ [] ≡ request-words (now (request .entry)) ] ⌝ }
+      | None ↦ check ∷ station ∷ first ∷ last ∷ [] ≡ request-words (now (request .entry))
+    ] ⌝ }
 {
     let [due_check, due_station, due_first, due_last] = request.words();
     if check != due_check {

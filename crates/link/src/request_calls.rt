@@ -46,8 +46,18 @@ impl Request {
         let [check, station, first, last] = words else {
             unreachable()
         };
-        let asked = if *first / VALUE_LIMIT == 3 { Asked::Sums } else { Asked::Signatures };
-        Ok(Request { check: value(*check), station: value(*station), asked, first: value(*first), last: value(*last) })
+        let asked = if *first / VALUE_LIMIT == 3 {
+            Asked::Sums
+        } else {
+            Asked::Signatures
+        };
+        Ok(Request {
+            check: value(*check),
+            station: value(*station),
+            asked,
+            first: value(*first),
+            last: value(*last),
+        })
     }
 
     // How many values it asks for.

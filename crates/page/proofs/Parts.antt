@@ -51,3 +51,6 @@ module _ {f : Ops} (l : Laws f) where
   filled L own =
       let zero-code : 0 < f .size = omega (arith, l .size-least) in
       sym (zeros (L - length own) (signature f own) (folded-code 0 own zero-code)) ∙ sym (folded-append 0 own (replicate (L - length own) 0))
+
+  pub signature-code : (bytes : List ℕ) → signature f bytes < f .size
+  signature-code bytes = folded-code 0 bytes (omega (arith, l .size-least))

@@ -7,10 +7,9 @@ use field::Field;
 use refusal::Limit;
 use refusal::Refusal;
 
-// The longest page, and the most pages in any field.
+// The longest page.
 const PAGE_LENGTH_LIMIT: usize = 4096;
 
-const PAGE_LIMIT: usize = 1920;
 
 // The number of pages of a job of so many bytes. Refused: the page length, then the number of pages.
 pub fn count_pages<F: Field>(bytes: usize, length: usize) -> Result<usize, Refusal>
@@ -20,7 +19,7 @@ pub fn count_pages<F: Field>(bytes: usize, length: usize) -> Result<usize, Refus
         return Err(Refusal::Size(Limit::PageLength));
     }
     let pages = bytes.div_ceil(length);
-    if pages < 1 || pages > PAGE_LIMIT || pages > F::place_count() {
+    if pages < 1 || pages > field::page_limit::<F>() {
         return Err(Refusal::Size(Limit::Pages));
     }
     Ok(pages)

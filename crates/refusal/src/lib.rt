@@ -12,10 +12,14 @@ use std::fmt;
 pub enum Refusal {
     // A number is outside its limits.
     Size(Limit),
+    // A buffer is too short for what is written there.
+    Cramped(Buffer),
     // A word is missing, surplus, of a wrong kind or no code; the place is its position, from 1.
     Garbled(usize),
     // A header word is not the request's; the place is its position.
     Foreign(usize),
+    // An index is outside its range, or the first is above the last.
+    Range,
 }
 
 // The number that is outside its limits.
@@ -29,14 +33,25 @@ pub enum Limit {
     PageLength,
 }
 
+// The buffer that is too short.
+#[derive(Clone, Copy, PartialEq, Eq, Debug)]
+pub enum Buffer {
+    // the tally of a check
+    Tally,
+    // any other
+    Other,
+}
+
 impl Refusal {
     pub fn number(self) -> u32
         ensures { λ r. ⌜ r ≡ Numbers.number self ⌝ }
     {
         match self {
             Refusal::Size(_) => 1,
+            Refusal::Cramped(_) => 2,
             Refusal::Garbled(_) => 8,
             Refusal::Foreign(_) => 9,
+            Refusal::Range => 11,
         }
     }
 
@@ -47,8 +62,11 @@ impl Refusal {
             Refusal::Size(Limit::Pages) => 3,
             Refusal::Size(Limit::Sums) => 6,
             Refusal::Size(Limit::PageLength) => 7,
+            Refusal::Cramped(Buffer::Tally) => 1,
+            Refusal::Cramped(Buffer::Other) => 2,
             Refusal::Garbled(position) => position,
             Refusal::Foreign(position) => position,
+            Refusal::Range => 0,
         }
     }
 }

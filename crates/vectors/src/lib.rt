@@ -7,6 +7,10 @@ mod cards_written;
 mod jobs;
 #[cfg(test)]
 mod powers;
+#[cfg(test)]
+mod replies;
+#[cfg(test)]
+mod serving;
 
 #[cfg(test)]
 mod tests {
@@ -15,13 +19,24 @@ mod tests {
     use crate::jobs;
     use crate::jobs::Case;
     use crate::powers::PUBLISHED;
+    use crate::replies;
+    use crate::serving;
     use binary::Small;
     use binary::SmallField;
     use binary::Wide;
     use binary::WideField;
     use field::Field;
+    use link::Asked;
+    use link::Request;
     use prime::Prime;
     use prime::PrimeField;
+    use refusal::Refusal;
+    use refusal::RefusalDebug;
+    use station::Card;
+    use station::CardStation;
+    use station::Shelf;
+    use station::ShelfStation;
+    use station::Station;
     use std::test::*;
 
     fn check_arithmetic<F: Field>(cases: &[[u32; 6]]) -> Result<(), Fail> {
@@ -107,6 +122,58 @@ mod tests {
             let job = vec![in heap; 1u8; case.bytes]?;
             let text = cards::card_in(heap, case.field, case.length, job.as_slice())?;
             check(text.as_slice() == case.text)?;
+        }
+        Ok(())
+    }
+
+    fn check_refusal(refusal: Refusal, number: u32, place: usize) -> Result<(), Fail> {
+        check_eq(refusal.number(), number)?;
+        check_eq(refusal.place(), place)
+    }
+
+    fn check_served<S: Station<Prime>>(station: &S, case: &serving::Case, reply: &mut [u32]) -> Result<(), Fail> {
+        match station::serve::<Prime, S>(station, 4, case.request, reply) {
+            Ok(count) => {
+                check_eq(count, case.count)?;
+                check(count == 4 + case.values.len() && case.request.len() == 4 && count <= reply.len())?;
+                check(&reply[0..4] == case.request)?;
+                check(&reply[4..count] == case.values)
+            }
+            Err(refusal) => {
+                check(reply.iter().copied().max().unwrap_or(7) == 7)?;
+                check_refusal(refusal, case.number, case.place)
+            }
+        }
+    }
+
+    // A card and a shelf that mean the same serve the same.
+    #[test]
+    fn serving_requests(rt: LibcRuntime) -> Result<(), Fail> {
+        let card: Card<Prime> = Card::new(&[3, 65537, 65542])?;
+        let shelf: Shelf<Prime> = Shelf::new(&[3, 0, 5], 1)?;
+        for case in &serving::CASES {
+            let mut reply = vec![in rt.alloc(); 7u32; case.room]?;
+            check_served(&card, case, reply.as_mut_slice())?;
+            let mut reply = vec![in rt.alloc(); 7u32; case.room]?;
+            check_served(&shelf, case, reply.as_mut_slice())?;
+        }
+        Ok(())
+    }
+
+    #[test]
+    fn reading_replies() -> Result<(), Fail> {
+        let Some(request) = Request::new(5, 4, Asked::Sums, 2, 3) else {
+            return check(false);
+        };
+        check_eq(request.words(), [0x10000005, 0x20000004, 0x30000002, 0x50000003])?;
+        for case in &replies::CASES {
+            match link::read_reply::<Prime>(&request, case.reply) {
+                Ok(values) => {
+                    check_eq(case.number, 0)?;
+                    check(case.reply.len() == 6 && values == &case.reply[4..6])?;
+                }
+                Err(refusal) => check_refusal(refusal, case.number, case.place)?,
+            }
         }
         Ok(())
     }

@@ -1,10 +1,11 @@
 use mathlib.Core.Path.{_≡_, sym, ap, _∙_}
+use Prim.Native.Nat.{suc, _-_}
 use native.Mathlib.Nat.{mul-one}
 use native.Mathlib.Omega.{arith}
-use lib.ListN.{length}
+use lib.ListN.{length, getD}
 use Rattle.field.specs.Field.{power}
 use Rattle.field.specs.Sums.{entry, power-sum}
-use Rattle.page.proofs.Sums.{sum-more, weight-more}
+use Rattle.field.proofs.Sums.{sum-more, weight-more}
 use Rattle.page.proofs.sum.row_sum.Needs as need
 
 pub loop-signature-holds : need.loop-signature-holds
@@ -21,8 +22,9 @@ loop-signature-again g c =
     let n = c .loop-signature .signature-index in
     let row = c .args .row .now in
     let weight = c .loop-signature .weight in
-    let more = sum-more l row j n (c .loop-signature .total) weight (c .loop-signature .inv .1) (c .loop-signature .inv .2) in
-    let next = weight-more l row j n weight (c .loop-signature .inv .2) in
+    let here : getD row n 0 ≡ entry row (suc n) = ap (λ k. getD row k 0) (let q : n ≡ suc n - 1 = omega arith in q) in
+    let more = sum-more l (entry row) j n (getD row n 0) weight (c .loop-signature .total) here (c .loop-signature .inv .2) (c .loop-signature .inv .1) in
+    let next = weight-more l (entry row) j n weight (c .loop-signature .inv .2) in
     (omega arith, cc, cc)
 
 pub returns : need.returns

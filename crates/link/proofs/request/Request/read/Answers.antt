@@ -15,8 +15,8 @@ returns c =
     let whole = c .in-rest .ensures tt in
     let kind : kind-of (getD words 2 0) ≡ asked-kind (c .if-first-eq3 .asked) =
     elim (c .if-first-eq3 .came) [
-      then-first-eq3 w ↦ w .if-first-eq3 .taken ∙ sym (ap asked-kind (w .asked-is))
-    | else-first-eq3 w ↦ third-kind 0 _ (whole .each 3 (omega arith) (omega (arith, whole .count))) (w .if-first-eq3 .left) ∙ sym (ap asked-kind (w .asked-is))
+      | then-first-eq3 w ↦ w .if-first-eq3 .taken ∙ sym (ap asked-kind (w .asked-is))
+      | else-first-eq3 w ↦ third-kind 0 _ (whole .each 3 (omega arith) (omega (arith, whole .count))) (w .if-first-eq3 .left) ∙ sym (ap asked-kind (w .asked-is))
     ] in
     let all = four-words words whole (asked-kind (c .if-first-eq3 .asked)) kind in
     ((whole-clear whole, tt), cc)

@@ -1,0 +1,13 @@
+pub mod Turns
+pub mod Words
+pub mod Windows
+pub mod Search
+pub mod Arrays
+pub mod Choosing
+pub mod Recovery
+pub mod Covering
+pub mod Products
+pub mod Vectors
+pub mod Terms
+pub mod Listings
+pub mod Solutions
