@@ -5,6 +5,34 @@ use std::time::Instant;
 extern "C" {
     fn wulambey_page_signature(field: u32, job: *const u8, job_len: usize, page_length: usize, page: usize) -> u32;
     fn wulambey_row_sum(field: u32, row: *const u32, row_len: usize, j: usize) -> u32;
+    fn wulambey_solve(
+        field: u32,
+        pages: usize,
+        values: *const u32,
+        values_len: usize,
+        weight: usize,
+        list: *mut Entry,
+        count: *mut usize,
+        place: *mut usize,
+    ) -> u32;
+    fn flint_roots(values: *const u32, count: usize, pages: usize) -> usize;
+}
+
+/// One page of a solution.
+#[repr(C)]
+#[derive(Clone, Copy)]
+struct Entry {
+    page: usize,
+    code: u32,
+}
+
+/// How many pages the solution has, in the list.
+fn solve(field: u32, pages: usize, values: &[u32], weight: usize, list: &mut [Entry; 129]) -> usize {
+    let (mut count, mut place) = (0, 0);
+    let status =
+        unsafe { wulambey_solve(field, pages, values.as_ptr(), values.len(), weight, list.as_mut_ptr(), &mut count, &mut place) };
+    assert_eq!(status, 0);
+    count
 }
 
 fn page_signature(field: u32, job: &[u8], length: usize, page: usize) -> u32 {
@@ -103,5 +131,27 @@ fn main() {
         let (theirs, b) = best(400, || plain(black_box(&row), black_box(7)));
         assert_eq!(a, b);
         println!("{:<8}{:>12.2}{:>14.2}{:>8.2}", name, ours / 1000.0, theirs / 1000.0, ours / theirs);
+    }
+
+    const SUMS: usize = 128;
+    const WEIGHT: usize = 64;
+    println!("solving {} pages from {} sums, weight {}", PAGES, SUMS, WEIGHT);
+    println!("{:<8}{:>12}{:>14}{:>8}", "field", "ours us", "FLINT us", "ratio");
+    let mut difference = vec![0; PAGES];
+    while difference.iter().filter(|code| **code != 0).count() < WEIGHT {
+        difference[next() as usize % PAGES] = 1 + (next() & 0x7FFF);
+    }
+    for (name, number) in [("wide", 2), ("prime", 3)] {
+        let values: Vec<u32> = (1..=SUMS).map(|j| row_sum(number, &difference, j)).collect();
+        let mut list = [Entry { page: 0, code: 0 }; 129];
+        let (ours, count) = best(200, || solve(number, PAGES, black_box(&values), WEIGHT, &mut list));
+        assert_eq!(count, WEIGHT);
+        assert!(list[..count].iter().all(|entry| difference[entry.page - 1] == entry.code));
+        if number == 3 {
+            let (theirs, roots) = best(200, || unsafe { flint_roots(black_box(values.as_ptr()), SUMS, PAGES) });
+            println!("{:<8}{:>12.0}{:>14.0}{:>8.2}   ({} roots)", name, ours / 1000.0, theirs / 1000.0, ours / theirs, roots);
+        } else {
+            println!("{:<8}{:>12.0}{:>14}{:>8}", name, ours / 1000.0, "-", "-");
+        }
     }
 }

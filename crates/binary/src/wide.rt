@@ -37,8 +37,9 @@ pub impl Field for Wide as WideField {
         Self::add(a, b)
     }
 
+    // The second factor is shifted, so that a running product, as the first, is not waited for.
     fn mul(a: u32, b: u32) -> u32 {
-        multiply::<16, POLY>(a, b)
+        multiply::<16, POLY>(b, a)
     }
 
     fn inv(a: u32) -> u32 {

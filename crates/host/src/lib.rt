@@ -12,6 +12,8 @@ use fields::FieldName;
 use prime::Prime;
 use prime::PrimeField;
 
+mod solving;
+
 // What is returned where no field has the number; it is no code of any field.
 const NO_FIELD: u32 = 0xFFFF_FFFF;
 

@@ -10,7 +10,6 @@ use refusal::Refusal;
 // The longest page.
 const PAGE_LENGTH_LIMIT: usize = 4096;
 
-
 // The number of pages of a job of so many bytes. Refused: the page length, then the number of pages.
 pub fn count_pages<F: Field>(bytes: usize, length: usize) -> Result<usize, Refusal>
     ensures { λ r. ⌜ Cases r (λ pages. Accepted (cutting (F·Field .ops) length bytes) × (pages ≡ page-count length bytes)) (Refused (cutting (F·Field .ops) length bytes)) ⌝ }

@@ -10,6 +10,7 @@ mod verify;
 pub use answer::solve;
 
 // One page of a solution, with its code; page 0 stands after the last.
+#[repr(C)]
 #[derive(Clone, Copy, PartialEq, Eq, Debug)]
 pub struct Entry {
     pub page: usize,

@@ -4,6 +4,8 @@ mod arithmetic;
 #[cfg(test)]
 mod cards_written;
 #[cfg(test)]
+mod differences;
+#[cfg(test)]
 mod jobs;
 #[cfg(test)]
 mod powers;
@@ -16,6 +18,7 @@ mod serving;
 mod tests {
     use crate::arithmetic;
     use crate::cards_written;
+    use crate::differences;
     use crate::jobs;
     use crate::jobs::Case;
     use crate::powers::PUBLISHED;
@@ -32,6 +35,7 @@ mod tests {
     use prime::PrimeField;
     use refusal::Refusal;
     use refusal::RefusalDebug;
+    use solve::Entry;
     use station::Card;
     use station::CardStation;
     use station::Shelf;
@@ -131,11 +135,19 @@ mod tests {
         check_eq(refusal.place(), place)
     }
 
-    fn check_served<S: Station<Prime>>(station: &S, case: &serving::Case, reply: &mut [u32]) -> Result<(), Fail> {
+    fn check_served<S: Station<Prime>>(
+        station: &S,
+        case: &serving::Case,
+        reply: &mut [u32],
+    ) -> Result<(), Fail> {
         match station::serve::<Prime, S>(station, 4, case.request, reply) {
             Ok(count) => {
                 check_eq(count, case.count)?;
-                check(count == 4 + case.values.len() && case.request.len() == 4 && count <= reply.len())?;
+                check(
+                    count == 4 + case.values.len()
+                        && case.request.len() == 4
+                        && count <= reply.len(),
+                )?;
                 check(&reply[0..4] == case.request)?;
                 check(&reply[4..count] == case.values)
             }
@@ -165,7 +177,10 @@ mod tests {
         let Some(request) = Request::new(5, 4, Asked::Sums, 2, 3) else {
             return check(false);
         };
-        check_eq(request.words(), [0x10000005, 0x20000004, 0x30000002, 0x50000003])?;
+        check_eq(
+            request.words(),
+            [0x10000005, 0x20000004, 0x30000002, 0x50000003],
+        )?;
         for case in &replies::CASES {
             match link::read_reply::<Prime>(&request, case.reply) {
                 Ok(values) => {
@@ -176,5 +191,83 @@ mod tests {
             }
         }
         Ok(())
+    }
+
+    const MARKED: Entry = Entry { page: 7, code: 7 };
+
+    fn check_solved<F: Field>(case: &differences::Case) -> Result<(), Fail> {
+        let mut list = [MARKED; 129];
+        match solve::solve::<F>(case.pages, case.values, case.weight, &mut list)? {
+            Some(count) => {
+                check(case.solved)?;
+                check_eq(count, case.solution.len())?;
+                check_listed(&list, case.solution)
+            }
+            None => {
+                check(!case.solved)?;
+                check(list[0].page == 7 && list[128].code == 7)
+            }
+        }
+    }
+
+    fn check_listed(list: &[Entry; 129], solution: &[(usize, u32)]) -> Result<(), Fail> {
+        for (place, entry) in list.iter().enumerate() {
+            let (page, code) = solution.get(place).copied().unwrap_or((0, 0));
+            check_eq(entry.page, page)?;
+            check_eq(entry.code, code)?;
+        }
+        Ok(())
+    }
+
+    #[test]
+    fn differences_in_small() -> Result<(), Fail> {
+        for case in &differences::SMALL {
+            check_solved::<Small>(case)?;
+        }
+        Ok(())
+    }
+
+    #[test]
+    fn differences_in_wide() -> Result<(), Fail> {
+        for case in &differences::WIDE {
+            check_solved::<Wide>(case)?;
+        }
+        Ok(())
+    }
+
+    #[test]
+    fn differences_in_prime() -> Result<(), Fail> {
+        for case in &differences::PRIME {
+            check_solved::<Prime>(case)?;
+        }
+        Ok(())
+    }
+
+    fn check_not_solved(
+        pages: usize,
+        values: &[u32],
+        weight: usize,
+        number: u32,
+        place: usize,
+    ) -> Result<(), Fail> {
+        let mut list = [MARKED; 129];
+        match solve::solve::<Small>(pages, values, weight, &mut list) {
+            Ok(_) => check(false),
+            Err(refusal) => {
+                check(list[0].page == 7 && list[128].code == 7)?;
+                check_refusal(refusal, number, place)
+            }
+        }
+    }
+
+    #[test]
+    fn solving_refused() -> Result<(), Fail> {
+        let zeros = [0; 129];
+        check_not_solved(0, &[], 0, 1, 3)?;
+        check_not_solved(256, &[0, 0], 1, 1, 3)?;
+        check_not_solved(5, &[0, 0, 0], 2, 1, 6)?;
+        check_not_solved(129, &zeros, 1, 1, 6)?;
+        check_not_solved(5, &[0, 256, 0, 300], 2, 8, 2)?;
+        check_not_solved(0, &[256], 2, 1, 3)
     }
 }
