@@ -24,6 +24,11 @@ request-words q =
 abbrev pub values-due : Request → ℕ
 values-due q = suc (q .last) - q .first
 
+-- a request with these parts
+abbrev pub Holds : Request → (check station : ℕ) → Asked → (first last : ℕ) → Type 0
+Holds q check station asked first last =
+    (q .check ≡ check) × (q .station ≡ station) × (q .asked ≡ asked) × (q .first ≡ first) × (q .last ≡ last)
+
 -- two requests that ask the same
 abbrev pub Same : Request → Request → Type 0
-Same p q = (p .check ≡ q .check) × (p .station ≡ q .station) × (p .asked ≡ q .asked) × (p .first ≡ q .first) × (p .last ≡ q .last)
+Same p q = Holds p (q .check) (q .station) (q .asked) (q .first) (q .last)

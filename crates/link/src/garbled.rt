@@ -3,6 +3,7 @@ ghost use mathlib.Core.Bool.{true, false};
 ghost use mathlib.Core.Path.{_≡_};
 ghost use Prim.Native.Nat.{ℕ, _+_, _<_, _≤_, _^_};
 ghost use Rattle.std.specs.declared.option.Option.the-variants.{Some, None};
+ghost use Rattle.refusal.specs.Rules.{Lowest-at};
 ghost use Rattle.link.specs.Reading.{Well-formed, Garbled-at, Whole};
 
 // Whether a word may stand at this position, from 1: kinds 1, 2, 3 or 4, 5, then kind 6 with a value below the limit.
@@ -24,7 +25,7 @@ fn well_formed(limit: u32, position: usize, word: u32) -> bool
 pub(crate) fn first_garbled(limit: u32, values: usize, words: &[u32]) -> Option<usize>
     requires { ⌜ values < 2 ^ 32 ⌝ }
     ensures { λ r. ⌜ elim r [
-      | Some position ↦ (1 ≤ position) × Garbled-at limit values (now (words .entry)) position × ((k : ℕ) → 1 ≤ k → k < position → Garbled-at limit values (now (words .entry)) k → ⊥)
+      | Some position ↦ Lowest-at (Garbled-at limit values (now (words .entry))) position
       | None ↦ Whole limit values (now (words .entry))
     ] ⌝ }
 {

@@ -4,7 +4,7 @@ ghost use mathlib.Core.List.{[], _∷_};
 ghost use Prim.Native.Nat.{ℕ, _<_, _≤_};
 ghost use Rattle.std.specs.Results.{Cases};
 ghost use Rattle.std.specs.declared.option.Option.the-variants.{Some, None};
-ghost use Rattle.refusal.specs.Rules.{Refused, Accepted};
+ghost use Rattle.refusal.specs.Rules.{Refused, Accepted, Lowest-at};
 ghost use Rattle.link.specs.Requests.{request-words};
 ghost use Rattle.link.specs.Reading.{Foreign-at, Reply, reading-reply};
 use crate::garbled::first_garbled;
@@ -39,7 +39,7 @@ fn first_foreign(
     last: u32,
 ) -> Option<usize>
     ensures { λ r. ⌜ elim r [
-      | Some position ↦ (1 ≤ position) × Foreign-at (now (request .entry)) (check ∷ station ∷ first ∷ last ∷ []) position × ((k : ℕ) → 1 ≤ k → k < position → Foreign-at (now (request .entry)) (check ∷ station ∷ first ∷ last ∷ []) k → ⊥)
+      | Some position ↦ Lowest-at (Foreign-at (now (request .entry)) (check ∷ station ∷ first ∷ last ∷ [])) position
       | None ↦ check ∷ station ∷ first ∷ last ∷ [] ≡ request-words (now (request .entry))
     ] ⌝ }
 {

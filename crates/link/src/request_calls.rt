@@ -6,7 +6,7 @@ ghost use Rattle.refusal.specs.Rules.{Refused, Accepted};
 ghost use Rattle.std.specs.declared.option.Option.the-variants.{Some, None};
 ghost use Rattle.link.specs.Words;
 ghost use Rattle.link.specs.Reading.{reading-request};
-ghost use Rattle.link.specs.Requests.{Narrow, request-words, values-due};
+ghost use Rattle.link.specs.Requests.{Narrow, Holds, request-words, values-due};
 use crate::asked::Asked;
 use crate::garbled::first_garbled;
 use crate::request::Request;
@@ -17,7 +17,10 @@ const VALUE_LIMIT: u32 = 1 << 28;
 impl Request {
     // A request, if each number fits the 28 bits of a word's value.
     pub fn new(check: u32, station: u32, asked: Asked, first: u32, last: u32) -> Option<Request>
-        ensures { λ r. ⌜ elim r [ Some q ↦ (q .check ≡ check) × (q .station ≡ station) × (q .asked ≡ asked) × (q .first ≡ first) × (q .last ≡ last) | None ↦ (Narrow check station first last → ⊥) ] ⌝ }
+        ensures { λ r. ⌜ elim r [
+          | Some q ↦ Holds q check station asked first last
+          | None ↦ (Narrow check station first last → ⊥)
+        ] ⌝ }
     {
         if check < VALUE_LIMIT
             && station < VALUE_LIMIT

@@ -18,9 +18,13 @@ pub record Rule : Type 1 where
 abbrev pub unless : Type 0 → ℕ → ℕ → Rule
 unless p n k = record { due = λ r. (p → ⊥) × (number r ≡ n) × (place r ≡ k); clear = p }
 
--- refuse by number n, at the lowest place k, from 1, at which p holds
+-- k is the lowest place, from 1, at which p holds
+abbrev pub Lowest-at : (ℕ → Type 0) → ℕ → Type 0
+Lowest-at p k = (1 ≤ k) × p k × ((i : ℕ) → 1 ≤ i → i < k → p i → ⊥)
+
+-- refuse by number n at the lowest place at which p holds
 abbrev pub lowest : (ℕ → Type 0) → ℕ → Rule
-lowest p n = record { due = λ r. (number r ≡ n) × (1 ≤ place r) × p (place r) × ((k : ℕ) → 1 ≤ k → k < place r → p k → ⊥); clear = (k : ℕ) → 1 ≤ k → p k → ⊥ }
+lowest p n = record { due = λ r. (number r ≡ n) × Lowest-at p (place r); clear = (k : ℕ) → 1 ≤ k → p k → ⊥ }
 
 abbrev pub Refused : List Rule → Refusal → Type 0
 Refused [] r = ⊥

@@ -25,7 +25,9 @@ pub fn solve<F: Field>(
     weight: usize,
     list: &mut [Entry; 129],
 ) -> Result<Option<usize>, Refusal>
-    ensures { λ r. ⌜ Cases r (λ answer. Accepted (solving (F·Field .ops) pages weight (now (values .entry))) × Answer (F·Field .ops) pages weight (now (values .entry)) (now (list .entry)) (now (list .exit)) answer)
+    ensures { λ r. ⌜ Cases r
+        (λ answer. Accepted (solving (F·Field .ops) pages weight (now (values .entry)))
+            × Answer (F·Field .ops) pages weight (now (values .entry)) (now (list .entry)) (now (list .exit)) answer)
         (λ refusal. Refused (solving (F·Field .ops) pages weight (now (values .entry))) refusal × (now (list .exit) ≡ now (list .entry))) ⌝ }
 {
     accept::<F>(pages, values, weight)?;

@@ -96,7 +96,9 @@ const VALUE_KIND: u32 = 6 << 28;
 fn write_answers<F: Field, S: Station<F>>(station: &S, request: &Request, reply: &mut [u32])
     requires range { ⌜ In-range (S·Station .row (now station)) (now request) ⌝ }
     requires room { ⌜ 4 + values-due (now request) ≤ length (now reply) ⌝ }
-    ensures { λ _. ⌜ now (reply .exit) ≡ (take 4 (now (reply .entry)) ++ map (Words.word 6) (answers (F·Field .ops) (S·Station .row (now (station .entry))) (now (request .entry)))) ++ drop (4 + values-due (now (request .entry))) (now (reply .entry)) ⌝ }
+    ensures { λ _. ⌜ now (reply .exit)
+        ≡ (take 4 (now (reply .entry)) ++ map (Words.word 6) (answers (F·Field .ops) (S·Station .row (now (station .entry))) (now (request .entry))))
+        ++ drop (4 + values-due (now (request .entry))) (now (reply .entry)) ⌝ }
 {
     for k in 0..request.value_count() {
         reply[4 + k] = VALUE_KIND + ask::<F, S>(station, request.asked, request.first as usize + k);

@@ -11,7 +11,7 @@ use Rattle.link.proofs.reply.read_reply.Needs as need
 pub returns-in-Some : need.returns-in-Some
 returns-in-Some g c =
     let found = simp (c .order .ensures, c .value-count .ensures) at (c .in-Some .ensures tt) in
-    inl (refl, found .0, found .1, found .2)
+    inl (refl, found)
 
 pub returns-in-None : need.returns-in-None
 returns-in-None g c =
