@@ -6,7 +6,7 @@ use Rattle.std.specs.Written.{decimal}
 use Rattle.refusal.specs.declared.Buffer.{Buffer}
 use Rattle.refusal.specs.declared.Buffer.the-variants.{Tally, Other}
 use Rattle.refusal.specs.declared.Limit.{Limit}
-use Rattle.refusal.specs.declared.Limit.the-variants.{Pages, Sums, PageLength}
+use Rattle.refusal.specs.declared.Limit.the-variants.{Stations, Pages, Bound, Sums, PageLength}
 use Rattle.refusal.specs.declared.Refusal.{Refusal}
 use Rattle.refusal.specs.declared.Refusal.the-variants.{Size, Cramped, Garbled, Foreign, Range}
 
@@ -18,7 +18,9 @@ number (Foreign position) = 9
 number Range = 11
 
 abbrev pub limit-place : Limit → ℕ
+limit-place Stations = 2
 limit-place Pages = 3
+limit-place Bound = 4
 limit-place Sums = 6
 limit-place PageLength = 7
 

@@ -25,8 +25,12 @@ pub enum Refusal {
 // The number that is outside its limits.
 #[derive(Clone, Copy, PartialEq, Eq, Debug)]
 pub enum Limit {
+    // how many stations a farm has
+    Stations,
     // how many pages a job, a card or a farm has
     Pages,
+    // how many stray copies are reckoned with
+    Bound,
     // how many sums a difference is solved from
     Sums,
     // how many bytes a page has
@@ -59,7 +63,9 @@ impl Refusal {
         ensures { λ r. ⌜ r ≡ Numbers.place self ⌝ }
     {
         match self {
+            Refusal::Size(Limit::Stations) => 2,
             Refusal::Size(Limit::Pages) => 3,
+            Refusal::Size(Limit::Bound) => 4,
             Refusal::Size(Limit::Sums) => 6,
             Refusal::Size(Limit::PageLength) => 7,
             Refusal::Cramped(Buffer::Tally) => 1,

@@ -1,0 +1,17 @@
+pub mod Counts
+pub mod Tables
+pub mod Codes
+pub mod Search
+pub mod Pairs
+pub mod Suspects
+pub mod Others
+pub mod Known
+pub mod Taken
+pub mod AtMostOne
+pub mod AtLeastOne
+pub mod AnyOrder
+pub mod Rows
+pub mod TrueGaps
+pub mod TrueFour
+pub mod TrueThree
+pub mod Truth

@@ -1,0 +1,11 @@
+pub mod Farm
+pub mod Askings
+pub mod Pairs
+pub mod Differences
+pub mod Four
+pub mod Three
+pub mod Settling
+pub mod Weighing
+pub mod Closing
+pub mod Ending
+pub mod Theorem

@@ -1,0 +1,12 @@
+use mathlib.Core.Path.{_∙_}
+use Prim.Native.Nat.{_≤_, _-_, _^_}
+use borrow.Author.Needs.{needs}
+use lib.ListN.{length}
+use Rattle.tally.specs.Rows.{sum-place}
+use Rattle.tally.proofs.Capped.{set-capped}
+use Rattle.tally.proofs.places.put_sum.Needs as need
+
+pub returns : need.returns
+returns c =
+    let short : length (c .args .tally .now) ≤ 2 ^ 64 - 1 = search needs in
+    c .put .ensures ∙ set-capped (c .args .tally .now) (2 ^ 64 - 1) short _ (sum-place (c .args .pages) (c .args .station) (c .args .j)) (c .args .sum) (c .sum-place .ensures)
