@@ -13,15 +13,24 @@ use Rattle.solve.specs.declared.Entry.{Entry}
 use Rattle.solve.specs.Solution.{Solution, solving}
 use Rattle.solve.specs.Answer.{Solved}
 
--- 0 with the solution in the list; 254 where there is none; a refusal's number with its place
-abbrev pub Solve-ended : Ops → (N t : ℕ) → List ℕ → (before after : List Entry) → (count at status : ℕ) → Type 0
-Solve-ended f N t values before after count at status =
-    (Accepted (solving f N t values) × (status ≡ 0) × Solved f N t values count after)
-    ⊎ ((Accepted (solving f N t values) × (status ≡ 254) × ((e : ℕ → ℕ) → Solution f N t values e → ⊥) × (after ≡ before))
-    ⊎ ((refusal : Refusal) × Refused (solving f N t values) refusal × (status ≡ number refusal) × (at ≡ place refusal) × (after ≡ before)))
+-- what the caller lends: the list, the count and the place
+pub record Lent : Type 0 where
+  pub list : List Entry
+  pub count : ℕ
+  pub place : ℕ
+
+-- 0 with the solution in the list; 254 where there is none; a refusal's number with its place. Nothing else is written.
+abbrev pub Ends : Ops → (N t : ℕ) → List ℕ → (before after : Lent) → (status : ℕ) → Type 0
+Ends f N t values before after status =
+    (Accepted (solving f N t values) × (status ≡ 0) × Solved f N t values (after .count) (after .list) × (after .place ≡ before .place))
+    ⊎ ((Accepted (solving f N t values) × (status ≡ 254) × ((e : ℕ → ℕ) → Solution f N t values e → ⊥)
+      × (after .list ≡ before .list) × (after .count ≡ before .count) × (after .place ≡ before .place))
+    ⊎ ((refusal : Refusal) × Refused (solving f N t values) refusal × (status ≡ number refusal)
+      × (after .list ≡ before .list) × (after .count ≡ before .count) × (after .place ≡ place refusal)))
 
 -- the same in the field with a number; 255 where there is none
-abbrev pub SolveEnded : ℕ → (N t : ℕ) → List ℕ → (before after : List Entry) → (count at status : ℕ) → Type 0
-SolveEnded field N t values before after count at status =
-    ((name : FieldName) × (field ≡ number-of name) × Solve-ended (ops-of name) N t values before after count at status)
-    ⊎ (((name : FieldName) → field ≡ number-of name → ⊥) × (status ≡ 255) × (after ≡ before))
+abbrev pub EndsIn : ℕ → (N t : ℕ) → List ℕ → (before after : Lent) → (status : ℕ) → Type 0
+EndsIn field N t values before after status =
+    ((name : FieldName) × (field ≡ number-of name) × Ends (ops-of name) N t values before after status)
+    ⊎ (((name : FieldName) → field ≡ number-of name → ⊥) × (status ≡ 255)
+      × (after .list ≡ before .list) × (after .count ≡ before .count) × (after .place ≡ before .place))

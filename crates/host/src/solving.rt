@@ -1,6 +1,6 @@
 // Solving a difference for programs in C and Rust.
 ghost use mathlib.Core.Path.{_≡_};
-ghost use Rattle.host.specs.Solving.{Solve-ended, SolveEnded};
+ghost use Rattle.host.specs.Solving.{Ends, EndsIn};
 use binary::Small;
 use binary::SmallField;
 use binary::Wide;
@@ -28,7 +28,9 @@ pub extern "C" fn wulambey_solve(
     count: &mut usize,
     place: &mut usize,
 ) -> u32
-    ensures { λ r. ⌜ SolveEnded field pages weight (now (values .entry)) (now (list .entry)) (now (list .exit)) (now (count .exit)) (now (place .exit)) r ⌝ }
+    ensures { λ r. ⌜ EndsIn field pages weight (now (values .entry))
+        (record { list = now (list .entry); count = now (count .entry); place = now (place .entry) })
+        (record { list = now (list .exit); count = now (count .exit); place = now (place .exit) }) r ⌝ }
 {
     match FieldName::numbered(field) {
         Some(FieldName::Small) => solve_in::<Small>(pages, values, weight, list, count, place),
@@ -46,7 +48,9 @@ fn solve_in<F: Field>(
     count: &mut usize,
     place: &mut usize,
 ) -> u32
-    ensures { λ r. ⌜ Solve-ended (F·Field .ops) pages weight (now (values .entry)) (now (list .entry)) (now (list .exit)) (now (count .exit)) (now (place .exit)) r ⌝ }
+    ensures { λ r. ⌜ Ends (F·Field .ops) pages weight (now (values .entry))
+        (record { list = now (list .entry); count = now (count .entry); place = now (place .entry) })
+        (record { list = now (list .exit); count = now (count .exit); place = now (place .exit) }) r ⌝ }
 {
     match solve::solve::<F>(pages, values, weight, list) {
         Ok(Some(listed)) => {
