@@ -11,7 +11,7 @@ use Rattle.algebra.specs.Vectors.{Page}
 use Rattle.scheme.specs.Farm.{Table}
 use Rattle.scheme.specs.Askings.{first-sums, all-sums, Outcome, over, split, filled, asks}
 use Rattle.scheme.specs.Differences.{Gaps, gap}
-use Rattle.scheme.specs.Four.{Known, Fails, Scattered, asked, sum-from-leads, row-from-leads}
+use Rattle.scheme.specs.Four.{Known, Fails, Scattered, asked, sum-from-leads, row-from-first, row-from-leads}
 use Rattle.scheme.specs.Three.{Taken, third, row-of-three}
 use Rattle.scheme.specs.Settling.{SettlesFour, SettlesThree, Settles}
 use Rattle.scheme.specs.Weighing.{WeighsFour, WeighsThree, Weighs}
@@ -69,7 +69,7 @@ module _ {f : Ops} {N : ℕ} (F : Lawful f N) (bound : ℕ) (T : Table) (own : �
         from : (E : Gaps) (i : ℕ) → Known f M N bound T E i → Dec (Fails f M N E i) → Dec (i ≡ 0) → (o : Outcome) × WeighsFour f M N bound T own o
         from E i known (yes x) _ = (over, inr (E, i, known, x))
         from E i known (no adds) (yes none) =
-            (filled (λ t n. f .minus (own n) (E 1 t n)), (E, subst (Known f M N bound T E) none known, subst (λ i. ¬ Fails f M N E i) none adds, λ t n a p. refl))
+            (filled (row-from-first f own E), (E, subst (Known f M N bound T E) none known, subst (λ i. ¬ Fails f M N E i) none adds, λ t n a p. refl))
         from E i known (no adds) (no some) = elim (lowest N (Scattered M E i) (λ n p. decLt _ _)) [
           | inl r ↦ (split (r .0), (E, i, known, omega arith, adds, r .1))
           | inr none ↦ (asks (asked i), (E, i, record { known = known; station = omega arith; adds = adds; gathered = none }, refl))

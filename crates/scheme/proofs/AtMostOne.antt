@@ -1,4 +1,6 @@
 -- Whatever is told, weighing has at most one outcome, and so has settling.
+use mathlib.Core.Bool.{cond}
+use lib.Dec.{eqb}
 use mathlib.Core.Path.{_≡_, sym, ap, ap₂, subst, _∙_}
 use mathlib.Core.Logic.{inl, inr}
 use Prim.Native.Nat.{ℕ, _≤_}
@@ -65,7 +67,7 @@ module _ {f : Ops} {N : ℕ} (F : Lawful f N) (bound : ℕ) (T : Table) (own : �
     weighs-four (filled Q) over x y = absurd (over-alone y (x .1) (x .2))
     weighs-four (filled Q) (split n) x y = absurd (omega (arith, y .3, one (y .2) (x .1) .0))
     weighs-four (filled Q) (filled R) x y = same-rows (λ s n a p.
-        x .3 s n a p ∙ ap (f .minus (own n)) (one (x .1) (y .1) .1 1 s n (omega arith) a (omega arith) (omega arith) p) ∙ sym (y .3 s n a p))
+        x .3 s n a p ∙ ap (λ x. cond (eqb s 1) (own n) (f .minus (own n) x)) (one (x .1) (y .1) .1 1 s n (omega arith) a (omega arith) (omega arith) p) ∙ sym (y .3 s n a p))
     weighs-four (filled Q) (asks k) x y = absurd (omega (arith, y .2 .station, one (y .2 .known) (x .1) .0))
     weighs-four (asks k) over x y = absurd (over-alone y (x .2 .known) (x .2 .adds))
     weighs-four (asks k) (split n) x y =

@@ -23,7 +23,7 @@ module _ {f : Ops} (l : Laws f) {N : ℕ} {own : ℕ → ℕ} (codes : Codes f N
   three bound T U R x = moved 3 _ R (x .6) (λ s n b. cond-code f (eqb s 1) _ _ (codes n b) (cond-code f _ _ _ (l .minus-code _ _) (l .minus-code _ _)))
 
 pub coded : Coded
-coded f l M N bound T U own codes R (inl (inl x)) s a = moved l codes M _ R (x .1 .3) (λ s n b. l .minus-code _ _) s a
+coded f l M N bound T U own codes R (inl (inl x)) s a = moved l codes M _ R (x .1 .3) (λ s n b. cond-code f (eqb s 1) _ _ (codes n b) (l .minus-code _ _)) s a
 coded f l M N bound T U own codes R (inl (inr x)) s a = three l codes bound T T R (x .1 .1) s (rw (x .0) at a)
 coded f l M N bound T U own codes R (inr (inl x)) s a = moved l codes M _ R (x .1 .5) (λ s n b. cond-code f (eqb s 1) _ _ (codes n b) (l .minus-code _ _)) s a
 coded f l M N bound T U own codes R (inr (inr x)) s a = three l codes bound T U R (x .1) s (rw (x .0) at a)

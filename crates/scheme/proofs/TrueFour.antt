@@ -14,7 +14,7 @@ use Rattle.scheme.specs.Farm.{Table, Station, count, agree, stray, holders, De
 use Rattle.scheme.specs.Askings.{all-sums}
 use Rattle.scheme.specs.Pairs.{Pair, Disjoint, among, TwoApart}
 use Rattle.scheme.specs.Differences.{Gaps, gap, Solution, Unsolved, Suspect, Differences}
-use Rattle.scheme.specs.Four.{by-way, Known, none-suspect, three-suspect, one-suspect, except, group-of-others, lead-of-others, Scattered, Fails, beside, FromLeads, sum-from-leads, row-from-leads}
+use Rattle.scheme.specs.Four.{by-way, Known, none-suspect, three-suspect, one-suspect, except, group-of-others, lead-of-others, Scattered, Fails, beside, FromLeads, sum-from-leads, row-from-first, row-from-leads}
 use Rattle.scheme.proofs.Counts.{agree-same, agree-apart, agree-most, count-same, count-four, count-some, count-except, except-at, except-other, except-same, top-most}
 use Rattle.scheme.proofs.Tables.{choice-strays}
 use Rattle.scheme.proofs.Codes.{minus-self, minus-minus, plus-minuses, minus-back, minus-flip, minus-zero, weight-difference, sum-difference}
@@ -203,10 +203,17 @@ module _ {f : Ops} {M N bound : ℕ} {P : Table} (farm : Farm f M N bound P) whe
 
   -- ── what is told decides
   module _ (two : 2 ≤ M) (T : Table) (told : (s : ℕ) → Station M s → Tells f N P T bound s) (own : ℕ → ℕ) (is : (n : ℕ) → Page N n → own n ≡ P 1 n) where
-    pub filled-true : (E : Gaps) → Known f M N bound T E 0 → (t n : ℕ) → Station M t → Page N n → f .minus (own n) (E 1 t n) ≡ P t n
-    filled-true E known t n a p =
-        ap₂ (f .minus) (is n p) (known-true T told known 1 t n (omega arith) a (omega arith) (omega arith) p)
-        ∙ minus-back (farm .field .laws) (P 1 n) (P t n) (farm .codes t a n p)
+    pub filled-true : (E : Gaps) → Known f M N bound T E 0 → (t n : ℕ) → Station M t → Page N n → row-from-first f own E t n ≡ P t n
+    filled-true E known t n a p = go (ℕ-discrete t 1)
+      where
+        row : f .minus (own n) (E 1 t n) ≡ P t n
+        row =
+            ap₂ (f .minus) (is n p) (known-true T told known 1 t n (omega arith) a (omega arith) (omega arith) p)
+            ∙ minus-back (farm .field .laws) (P 1 n) (P t n) (farm .codes t a n p)
+
+        go : Dec (t ≡ 1) → row-from-first f own E t n ≡ P t n
+        go (yes first) = rw (eq-eqb t 1 first) (is n p ∙ ap (λ s. P s n) (sym first))
+        go (no other) = rw (ne-eqb t 1 other) row
 
     module _ (E : Gaps) (i : ℕ) (known : Known f M N bound T E i) (some : 1 ≤ i) where
       here : Station M i

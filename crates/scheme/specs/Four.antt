@@ -83,6 +83,10 @@ module _ (f : Ops) (M N bound : ℕ) (T : Table) (E : Gaps) (i : ℕ) where
 abbrev pub gap-from-first : Ops → Gaps → (i : ℕ) → (e : ℕ → ℕ) → (g t n : ℕ) → ℕ
 gap-from-first f E i e g t n = cond (eqb i 1) (f .plus (e n) (E g t n)) (cond (eqb t i) (f .minus (E 1 g n) (e n)) (E 1 t n))
 
+-- the rows by their differences from row 1, which stays as it is
+abbrev pub row-from-first : Ops → (own : ℕ → ℕ) → Gaps → Table
+row-from-first f own E t n = cond (eqb t 1) (own n) (f .minus (own n) (E 1 t n))
+
 -- the rows, where e is the difference of i from the leads of the others
 abbrev pub row-from-leads : Ops → (M : ℕ) → (own : ℕ → ℕ) → Gaps → (i : ℕ) → (e : ℕ → ℕ) → Table
 row-from-leads f M own E i e t n = cond (eqb t 1) (own n) (f .minus (own n) (gap-from-first f E i e (lead-of-others M E i n) t n))

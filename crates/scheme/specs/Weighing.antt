@@ -7,7 +7,7 @@ use Rattle.scheme.specs.Farm.{Table, Lowest, Same}
 use Rattle.scheme.specs.Askings.{first-sums, all-sums, Outcome, over, split, filled, asks}
 use Rattle.scheme.specs.Pairs.{Pair, TwoApart}
 use Rattle.scheme.specs.Differences.{Gaps, Suspect, Unsolved}
-use Rattle.scheme.specs.Four.{Known, Fails, Scattered, Doubted, asked}
+use Rattle.scheme.specs.Four.{Known, Fails, Scattered, Doubted, asked, row-from-first}
 use Rattle.scheme.specs.Three.{Taken, third}
 use Rattle.scheme.specs.Settling.{SettlesThree}
 
@@ -21,7 +21,7 @@ module _ (f : Ops) (M N bound : ℕ) (T : Table) (own : ℕ → ℕ) where
   WeighsFour (split n) =
       (E : Gaps) × (i : ℕ) × Known f M N bound T E i × (1 ≤ i) × (¬ Fails f M N E i) × Lowest N (Scattered M E i) n
   WeighsFour (filled R) =
-      (E : Gaps) × Known f M N bound T E 0 × (¬ Fails f M N E 0) × Same M N R (λ t n. f .minus (own n) (E 1 t n))
+      (E : Gaps) × Known f M N bound T E 0 × (¬ Fails f M N E 0) × Same M N R (row-from-first f own E)
   WeighsFour (asks k) = (E : Gaps) × (i : ℕ) × Doubted f M N bound T E i × (k ≡ asked i)
 
 module _ (f : Ops) (N bound : ℕ) (T : Table) (own : ℕ → ℕ) where

@@ -11,3 +11,5 @@ pub mod Vectors
 pub mod Terms
 pub mod Listings
 pub mod Solutions
+pub mod Lookups
+pub mod Values

@@ -4,10 +4,12 @@ mod candidates;
 mod entries;
 mod listing;
 mod locator;
+mod lookup;
 mod polynomial;
 mod verify;
 
 pub use answer::solve;
+pub use lookup::code_at;
 
 // One page of a solution, with its code; page 0 stands after the last.
 #[repr(C)]

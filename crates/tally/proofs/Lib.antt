@@ -1,1 +1,3 @@
+pub mod BadPages
 pub mod Capped
+pub mod Halves

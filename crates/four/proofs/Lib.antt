@@ -1,0 +1,4 @@
+pub mod Tops
+pub mod RowsWritten
+pub mod Leads
+pub mod Shaped

@@ -1,0 +1,6 @@
+pub mod Listings
+pub mod Answering
+pub mod Standing
+pub mod Suspecting
+pub mod Shapes
+pub mod Found

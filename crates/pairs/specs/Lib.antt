@@ -1,0 +1,5 @@
+pub mod Held
+pub mod Suspects
+pub mod Solving
+pub mod Searching
+pub mod Doubts

@@ -1,0 +1,5 @@
+pub mod Values
+pub mod Codes
+pub mod Places
+pub mod Filling
+pub mod Lightest

@@ -1,0 +1,5 @@
+pub mod Solved
+pub mod Written
+pub mod Pairs
+pub mod Outcomes
+pub mod Weighings
