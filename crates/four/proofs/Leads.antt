@@ -17,4 +17,4 @@ front-sum f row N e j fits is =
     ap (λ k. power-sum f (length (take k row)) (entry (take k row)) j) whole
     ∙ ap (λ n. power-sum f n (entry (take N row)) j) (length-take-le N row fits)
     ∙ total-same f N _ _ (λ k from to.
-        ap (λ x. f .times x (power f (f .alpha) (j * k))) (getD-take N row (k - 1) 0 (omega arith) ∙ is k (from, to)))
+    ap (λ x. f .times x (power f (f .alpha) (j * k))) (getD-take N row (k - 1) 0 (omega arith) ∙ is k (from, to)))

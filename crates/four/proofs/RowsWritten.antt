@@ -39,27 +39,27 @@ module _ (N k t : ℕ) (before middle after : List ℕ) (row : ℕ → ℕ) (v :
       record {
         size = ap length e ∙ length-set middle p v ∙ put .size;
         row-is = λ n page.
-          ap (λ xs. signature-in xs N t n) e
-          ∙ ⊎-elim
-          (λ low. getD-set-other middle p (signature-place N t n) v 0 (let ne : signature-place N t n ≢ p = omega arith in ne) ∙ put .row-is n (page .0, omega arith))
-          (λ high.
+            ap (λ xs. signature-in xs N t n) e
+            ∙ ⊎-elim
+            (λ low. getD-set-other middle p (signature-place N t n) v 0 (let ne : signature-place N t n ≢ p = omega arith in ne) ∙ put .row-is n (page .0, omega arith))
+            (λ high.
             let same : n ≡ k + 1 = omega arith in
             ap (λ m. getD (set middle p v) (signature-place N t m) 0) same ∙ getD-set-same middle p v 0 inside ∙ is ∙ ap row (sym same))
-          (cases-lt n (k + 1));
+            (cases-lt n (k + 1));
         rest = λ i apart.
-          ap (λ xs. getD xs i 0) e
-          ∙ getD-set-other middle p i v 0 (apart (k + 1) (omega arith, omega arith))
-          ∙ put .rest i (λ n page. apart n (page .0, omega arith));
+            ap (λ xs. getD xs i 0) e
+            ∙ getD-set-other middle p i v 0 (apart (k + 1) (omega arith, omega arith))
+            ∙ put .rest i (λ n page. apart n (page .0, omega arith));
       }
 
 -- row 1 is read before it is written
 pub own-unwritten : (N k t : ℕ) (before middle : List ℕ) (row : ℕ → ℕ) → RowPut N k t before middle row → 1 ≤ t → k < N → signature-in middle N 1 (k + 1) ≡ signature-in before N 1 (k + 1)
 own-unwritten N k t before middle row put from short =
     put .rest (signature-place N 1 (k + 1)) (λ n page e.
-      ⊎-elim
-      (λ later. rows-apart N 1 t (k + 1) n (omega arith) later (omega arith, omega arith) (page .0, omega arith) e)
-      (λ first. let same : t ≡ 1 = omega arith in let here : signature-place N 1 (k + 1) ≡ signature-place N 1 n = e ∙ ap (λ s. signature-place N s n) same in omega arith)
-      (cases-lt 1 t))
+    ⊎-elim
+    (λ later. rows-apart N 1 t (k + 1) n (omega arith) later (omega arith, omega arith) (page .0, omega arith) e)
+    (λ first. let same : t ≡ 1 = omega arith in let here : signature-place N 1 (k + 1) ≡ signature-place N 1 n = e ∙ ap (λ s. signature-place N s n) same in omega arith)
+    (cases-lt 1 t))
 
 module _ (M N t : ℕ) (before middle after : List ℕ) (R : Table) (done : RowsPut M N t before middle R) where
   -- row 1 stands as it was as long as it is not written itself
@@ -71,16 +71,16 @@ module _ (M N t : ℕ) (before middle after : List ℕ) (R : Table) (done : Rows
   rows-more from to row put is = record {
     size = put .size ∙ done .size;
     rows = λ s n above station page.
-      ⊎-elim
-      (λ later.
+        ⊎-elim
+        (λ later.
         put .rest (signature-place N s n) (λ m other e. rows-apart N t s m n from later other page (sym e)) ∙ done .rows s n later station page)
-      (λ here.
+        (λ here.
         let same : s ≡ t = omega arith in
         ap (λ r. signature-in after N r n) same ∙ put .row-is n page ∙ is n page ∙ ap (λ r. R r n) (sym same))
-      (cases-lt t s);
+        (cases-lt t s);
     rest = λ i apart.
-      put .rest i (λ n page. apart t n (omega arith) (from, to) page)
-      ∙ done .rest i (λ s n above. apart s n (omega arith));
+        put .rest i (λ n page. apart t n (omega arith) (from, to) page)
+        ∙ done .rest i (λ s n above. apart s n (omega arith));
   }
 
 -- where all rows but row 1 are written, all are filled
@@ -89,14 +89,14 @@ pub rows-filled : (M N : ℕ) (before after : List ℕ) (own : ℕ → ℕ) (R :
 rows-filled M N before after own R is done = record {
   size = done .size;
   rows = λ s n station page.
-    ⊎-elim
-    (λ later. done .rows s n later station page ∙ sym (ap (λ b. cond b (own n) (R s n)) (ne-eqb s 1 (let ne : s ≢ 1 = omega arith in ne))))
-    (λ first.
+      ⊎-elim
+      (λ later. done .rows s n later station page ∙ sym (ap (λ b. cond b (own n) (R s n)) (ne-eqb s 1 (let ne : s ≢ 1 = omega arith in ne))))
+      (λ first.
       let same : s ≡ 1 = omega arith in
       ap (λ t. signature-in after N t n) same
       ∙ own-stands M N 1 before after after R done (omega arith) n page
       ∙ sym (is n page)
       ∙ sym (ap (λ b. cond b (own n) (R s n)) (eq-eqb s 1 same)))
-    (cases-lt 1 s);
+      (cases-lt 1 s);
   rest = λ i apart. done .rest i (λ s n above. apart s n);
 }

@@ -39,8 +39,7 @@ module _ (f : Ops) (M N bound : ℕ) (T : Table) (g : PairGaps) (solved : PairsS
   known-by-shape four TwoApart x ne = absurd (ne refl)
   known-by-shape four Nobody x ne = none-suspect (solved .differences) (λ s t p y. x s t p (solved .suspects s t p .0 y))
   known-by-shape four (Triangle a b c m) x ne =
-      three-suspect a b c m (solved .differences)
-      (
+      three-suspect a b c m (solved .differences) (
         x .0 .0,
         x .0 .1,
         x .0 .2,
@@ -52,8 +51,7 @@ module _ (f : Ops) (M N bound : ℕ) (T : Table) (g : PairGaps) (solved : PairsS
       )
       (x .1 four)
   known-by-shape four (Station i) x ne =
-      one-suspect (solved .differences) (λ empty. x .0 (λ s t p y. empty s t p (solved .suspects s t p .1 y)))
-      (
+      one-suspect (solved .differences) (λ empty. x .0 (λ s t p y. empty s t p (solved .suspects s t p .1 y))) (
         x .1 .0,
         (λ s t p y. x .1 .1 s t p (solved .suspects s t p .0 y)),
         (λ m from less all. x .1 .2 m from less (λ s t p y. all s t p (solved .suspects s t p .1 y))),

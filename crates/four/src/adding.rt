@@ -7,7 +7,12 @@ use crate::gaps::RowGaps;
 use field::Field;
 
 // No three of the stations 1 to `stations`, other than `aside`, have differences that do not add up on a page.
-pub(crate) fn all_add<F: Field, G: RowGaps<F>>(gaps: &G, stations: usize, pages: usize, aside: usize) -> bool
+pub(crate) fn all_add<F: Field, G: RowGaps<F>>(
+    gaps: &G,
+    stations: usize,
+    pages: usize,
+    aside: usize,
+) -> bool
     requires { ⌜ stations ≤ 8 ⌝ }
     ensures { λ r. ⌜ elim r [
       | true ↦ (Fails (F·Field .ops) stations pages (G·RowGaps .gaps (now (gaps .entry))) aside → ⊥)
@@ -22,7 +27,13 @@ pub(crate) fn all_add<F: Field, G: RowGaps<F>>(gaps: &G, stations: usize, pages:
     true
 }
 
-fn seconds_add<F: Field, G: RowGaps<F>>(gaps: &G, stations: usize, pages: usize, aside: usize, s: usize) -> bool
+fn seconds_add<F: Field, G: RowGaps<F>>(
+    gaps: &G,
+    stations: usize,
+    pages: usize,
+    aside: usize,
+    s: usize,
+) -> bool
     requires { ⌜ stations ≤ 8 ⌝ }
     requires { ⌜ s ≤ stations ⌝ }
     ensures { λ r. ⌜ elim r [
@@ -38,7 +49,14 @@ fn seconds_add<F: Field, G: RowGaps<F>>(gaps: &G, stations: usize, pages: usize,
     true
 }
 
-fn thirds_add<F: Field, G: RowGaps<F>>(gaps: &G, stations: usize, pages: usize, aside: usize, s: usize, t: usize) -> bool
+fn thirds_add<F: Field, G: RowGaps<F>>(
+    gaps: &G,
+    stations: usize,
+    pages: usize,
+    aside: usize,
+    s: usize,
+    t: usize,
+) -> bool
     requires { ⌜ stations ≤ 8 ⌝ }
     requires { ⌜ t ≤ stations ⌝ }
     ensures { λ r. ⌜ elim r [

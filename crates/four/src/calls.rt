@@ -17,13 +17,19 @@ use refusal::Limit;
 use refusal::Refusal;
 
 const BOUND_LIMIT: usize = 64;
+
 const SUM_COUNT: usize = 128;
 
 // What the first sums say. Refused: the number of stations, of pages, the bound, a tally that is too short; the tally is then what it was.
-pub fn weigh_four<F: Field>(stations: usize, pages: usize, bound: usize, tally: &mut [u32]) -> Result<Outcome, Refusal>
+pub fn weigh_four<F: Field>(
+    stations: usize,
+    pages: usize,
+    bound: usize,
+    tally: &mut [u32],
+) -> Result<Outcome, Refusal>
     ensures { λ r. ⌜ Cases r
         (λ outcome. Accepted (four-stations (F·Field .ops) stations pages bound (length (now (tally .entry))))
-            × WeighedFour (F·Field .ops) stations pages bound (now (tally .entry)) (now (tally .exit)) outcome)
+        × WeighedFour (F·Field .ops) stations pages bound (now (tally .entry)) (now (tally .exit)) outcome)
         (λ refusal. Refused (four-stations (F·Field .ops) stations pages bound (length (now (tally .entry)))) refusal × (now (tally .exit) ≡ now (tally .entry))) ⌝ }
 {
     match accept::<F>(stations, pages, bound, tally.len()) {
@@ -33,10 +39,15 @@ pub fn weigh_four<F: Field>(stations: usize, pages: usize, bound: usize, tally: 
 }
 
 // What the first sums say and, where a station is asked again, all its sums. Refused as weighing is.
-pub fn settle_four<F: Field>(stations: usize, pages: usize, bound: usize, tally: &mut [u32]) -> Result<Outcome, Refusal>
+pub fn settle_four<F: Field>(
+    stations: usize,
+    pages: usize,
+    bound: usize,
+    tally: &mut [u32],
+) -> Result<Outcome, Refusal>
     ensures { λ r. ⌜ Cases r
         (λ outcome. Accepted (four-stations (F·Field .ops) stations pages bound (length (now (tally .entry))))
-            × SettledFour (F·Field .ops) stations pages bound (now (tally .entry)) (now (tally .exit)) outcome)
+        × SettledFour (F·Field .ops) stations pages bound (now (tally .entry)) (now (tally .exit)) outcome)
         (λ refusal. Refused (four-stations (F·Field .ops) stations pages bound (length (now (tally .entry)))) refusal × (now (tally .exit) ≡ now (tally .entry))) ⌝ }
 {
     match accept::<F>(stations, pages, bound, tally.len()) {
@@ -63,7 +74,12 @@ fn accept<F: Field>(stations: usize, pages: usize, bound: usize, room: usize) ->
     Ok(())
 }
 
-fn weigh_accepted<F: Field>(stations: usize, pages: usize, bound: usize, tally: &mut [u32]) -> Outcome
+fn weigh_accepted<F: Field>(
+    stations: usize,
+    pages: usize,
+    bound: usize,
+    tally: &mut [u32],
+) -> Outcome
     requires { ⌜ Accepted (four-stations (F·Field .ops) stations pages bound (length (now tally))) ⌝ }
     ensures { λ r. ⌜ WeighedFour (F·Field .ops) stations pages bound (now (tally .entry)) (now (tally .exit)) r ⌝ }
 {
@@ -75,7 +91,12 @@ fn weigh_accepted<F: Field>(stations: usize, pages: usize, bound: usize, tally: 
     }
 }
 
-fn settle_accepted<F: Field>(stations: usize, pages: usize, bound: usize, tally: &mut [u32]) -> Outcome
+fn settle_accepted<F: Field>(
+    stations: usize,
+    pages: usize,
+    bound: usize,
+    tally: &mut [u32],
+) -> Outcome
     requires { ⌜ Accepted (four-stations (F·Field .ops) stations pages bound (length (now tally))) ⌝ }
     ensures { λ r. ⌜ SettledFour (F·Field .ops) stations pages bound (now (tally .entry)) (now (tally .exit)) r ⌝ }
 {

@@ -11,7 +11,12 @@ use tally::put_signature;
 use tally::signature_in;
 
 // Makes each row but row 1 what row 1 is minus the difference of row 1 and it.
-pub(crate) fn fill_rows<F: Field, G: RowGaps<F>>(gaps: &G, stations: usize, pages: usize, tally: &mut [u32])
+pub(crate) fn fill_rows<F: Field, G: RowGaps<F>>(
+    gaps: &G,
+    stations: usize,
+    pages: usize,
+    tally: &mut [u32],
+)
     requires some { ⌜ 1 ≤ stations ⌝ }
     requires few { ⌜ stations ≤ 8 ⌝ }
     requires narrow { ⌜ pages ≤ 1920 ⌝ }

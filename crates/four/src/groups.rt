@@ -10,7 +10,12 @@ use crate::gaps::RowGaps;
 use field::Field;
 
 // The lowest page on which the largest group of the others is below half of all stations.
-pub(crate) fn first_scattered<F: Field, G: RowGaps<F>>(gaps: &G, stations: usize, pages: usize, aside: usize) -> Option<usize>
+pub(crate) fn first_scattered<F: Field, G: RowGaps<F>>(
+    gaps: &G,
+    stations: usize,
+    pages: usize,
+    aside: usize,
+) -> Option<usize>
     requires { ⌜ stations ≤ 8 ⌝ }
     ensures { λ r. ⌜ elim r [
       | Some n ↦ Lowest pages (Scattered stations (G·RowGaps .gaps (now (gaps .entry))) aside) n
@@ -25,7 +30,12 @@ pub(crate) fn first_scattered<F: Field, G: RowGaps<F>>(gaps: &G, stations: usize
     None
 }
 
-fn is_scattered<F: Field, G: RowGaps<F>>(gaps: &G, stations: usize, aside: usize, page: usize) -> bool
+fn is_scattered<F: Field, G: RowGaps<F>>(
+    gaps: &G,
+    stations: usize,
+    aside: usize,
+    page: usize,
+) -> bool
     requires { ⌜ stations ≤ 8 ⌝ }
     ensures { λ r. ⌜ elim r [
       | true ↦ Scattered stations (G·RowGaps .gaps (now (gaps .entry))) aside page
@@ -37,7 +47,12 @@ fn is_scattered<F: Field, G: RowGaps<F>>(gaps: &G, stations: usize, aside: usize
 }
 
 // The lowest station of the largest group of the others.
-pub(crate) fn find_lead<F: Field, G: RowGaps<F>>(gaps: &G, stations: usize, aside: usize, page: usize) -> usize
+pub(crate) fn find_lead<F: Field, G: RowGaps<F>>(
+    gaps: &G,
+    stations: usize,
+    aside: usize,
+    page: usize,
+) -> usize
     requires { ⌜ stations ≤ 8 ⌝ }
     ensures { λ r. ⌜ r ≡ lead-of-others stations (G·RowGaps .gaps (now (gaps .entry))) aside page ⌝ }
 {
@@ -54,7 +69,13 @@ pub(crate) fn find_lead<F: Field, G: RowGaps<F>>(gaps: &G, stations: usize, asid
 }
 
 // The size of the group of a station among the others; the one aside has none.
-fn group_size<F: Field, G: RowGaps<F>>(gaps: &G, stations: usize, aside: usize, page: usize, station: usize) -> usize
+fn group_size<F: Field, G: RowGaps<F>>(
+    gaps: &G,
+    stations: usize,
+    aside: usize,
+    page: usize,
+    station: usize,
+) -> usize
     requires { ⌜ stations ≤ 8 ⌝ }
     ensures { λ r. ⌜ r ≡ group-of-others stations (G·RowGaps .gaps (now (gaps .entry))) aside page station ⌝ }
 {
@@ -66,7 +87,13 @@ fn group_size<F: Field, G: RowGaps<F>>(gaps: &G, stations: usize, aside: usize, 
 }
 
 // How many of the others agree with a station.
-fn count_agreeing<F: Field, G: RowGaps<F>>(gaps: &G, stations: usize, aside: usize, page: usize, station: usize) -> usize
+fn count_agreeing<F: Field, G: RowGaps<F>>(
+    gaps: &G,
+    stations: usize,
+    aside: usize,
+    page: usize,
+    station: usize,
+) -> usize
     requires { ⌜ stations ≤ 8 ⌝ }
     ensures { λ r. ⌜ r ≡ count stations (except aside (λ t. agree (G·RowGaps .gaps (now (gaps .entry)) t station page) 0)) ⌝ }
 {
@@ -78,9 +105,19 @@ fn count_agreeing<F: Field, G: RowGaps<F>>(gaps: &G, stations: usize, aside: usi
 }
 
 // 1 for a station other than the one aside that agrees, else 0.
-fn agrees<F: Field, G: RowGaps<F>>(gaps: &G, aside: usize, page: usize, station: usize, other: usize) -> usize
+fn agrees<F: Field, G: RowGaps<F>>(
+    gaps: &G,
+    aside: usize,
+    page: usize,
+    station: usize,
+    other: usize,
+) -> usize
     ensures value { λ r. ⌜ r ≡ except aside (λ t. agree (G·RowGaps .gaps (now (gaps .entry)) t station page) 0) other ⌝ }
     ensures few { λ r. ⌜ r ≤ 1 ⌝ }
 {
-    if other == aside || gaps.gap(other, station, page) != 0 { 0 } else { 1 }
+    if other == aside || gaps.gap(other, station, page) != 0 {
+        0
+    } else {
+        1
+    }
 }

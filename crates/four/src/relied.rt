@@ -37,7 +37,10 @@ pub(crate) impl<F: Field> RowGaps<F> for Relied as ReliedGaps {
         match self.doubt {
             Doubt::Triangle { x, y, z, outside } => {
                 if is_among(x, y, z, s) && is_among(x, y, z, t) {
-                    F::sub(gap_in::<F>(&self.gaps, s, outside, page), gap_in::<F>(&self.gaps, t, outside, page))
+                    F::sub(
+                        gap_in::<F>(&self.gaps, s, outside, page),
+                        gap_in::<F>(&self.gaps, t, outside, page),
+                    )
                 } else {
                     gap_in::<F>(&self.gaps, s, t, page)
                 }

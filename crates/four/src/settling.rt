@@ -57,7 +57,12 @@ fn station_beside(aside: usize) -> usize
 }
 
 // The differences of the station beside from the leads, page by page.
-fn lead_gaps<F: Field, G: RowGaps<F>>(gaps: &G, stations: usize, pages: usize, aside: usize) -> [u32; 1920]
+fn lead_gaps<F: Field, G: RowGaps<F>>(
+    gaps: &G,
+    stations: usize,
+    pages: usize,
+    aside: usize,
+) -> [u32; 1920]
     requires few { ⌜ stations ≤ 8 ⌝ }
     requires narrow { ⌜ pages ≤ 1920 ⌝ }
     ensures { λ r. ⌜ ((n : ℕ) → Page pages n → entry r n
@@ -73,7 +78,14 @@ fn lead_gaps<F: Field, G: RowGaps<F>>(gaps: &G, stations: usize, pages: usize, a
 }
 
 // The sums of the difference of the station aside from the leads, from place 0 on.
-fn lead_sums<F: Field, G: RowGaps<F>>(gaps: &G, stations: usize, pages: usize, bound: usize, aside: usize, tally: &[u32]) -> [u32; 128]
+fn lead_sums<F: Field, G: RowGaps<F>>(
+    gaps: &G,
+    stations: usize,
+    pages: usize,
+    bound: usize,
+    aside: usize,
+    tally: &[u32],
+) -> [u32; 128]
     requires few { ⌜ stations ≤ 8 ⌝ }
     requires narrow { ⌜ pages ≤ 1920 ⌝ }
     requires known { ⌜ bound ≤ 64 ⌝ }
@@ -84,14 +96,25 @@ fn lead_sums<F: Field, G: RowGaps<F>>(gaps: &G, stations: usize, pages: usize, b
     let row = lead_gaps::<F, G>(gaps, stations, pages, aside);
     let mut values = [0; 128];
     for k in 0..pages.min(2 * bound) {
-        let gap = F::sub(sum_in(tally, pages, aside, k + 1), sum_in(tally, pages, beside, k + 1));
+        let gap = F::sub(
+            sum_in(tally, pages, aside, k + 1),
+            sum_in(tally, pages, beside, k + 1),
+        );
         values[k] = F::add(gap, page::row_sum::<F>(&row[0..pages], k + 1));
     }
     values
 }
 
 // Whether the difference of the station aside from the leads has a solution; the list then holds it.
-fn solve_leads<F: Field, G: RowGaps<F>>(gaps: &G, stations: usize, pages: usize, bound: usize, aside: usize, tally: &[u32], list: &mut [Entry; 129]) -> bool
+fn solve_leads<F: Field, G: RowGaps<F>>(
+    gaps: &G,
+    stations: usize,
+    pages: usize,
+    bound: usize,
+    aside: usize,
+    tally: &[u32],
+    list: &mut [Entry; 129],
+) -> bool
     requires few { ⌜ stations ≤ 8 ⌝ }
     requires some { ⌜ 1 ≤ pages ⌝ }
     requires narrow { ⌜ pages ≤ page-limit (F·Field .ops) ⌝ }
@@ -113,7 +136,14 @@ fn solve_leads<F: Field, G: RowGaps<F>>(gaps: &G, stations: usize, pages: usize,
 }
 
 // Settles the station aside: whether the rows could be filled; if not, the tally is what it was.
-pub(crate) fn settle_aside<F: Field, G: RowGaps<F>>(gaps: &G, stations: usize, pages: usize, bound: usize, aside: usize, tally: &mut [u32]) -> bool
+pub(crate) fn settle_aside<F: Field, G: RowGaps<F>>(
+    gaps: &G,
+    stations: usize,
+    pages: usize,
+    bound: usize,
+    aside: usize,
+    tally: &mut [u32],
+) -> bool
     requires stationed { ⌜ 1 ≤ stations ⌝ }
     requires few { ⌜ stations ≤ 8 ⌝ }
     requires some { ⌜ 1 ≤ pages ⌝ }
@@ -126,7 +156,12 @@ pub(crate) fn settle_aside<F: Field, G: RowGaps<F>>(gaps: &G, stations: usize, p
     if !solve_leads::<F, G>(gaps, stations, pages, bound, aside, tally, &mut list) {
         return false;
     }
-    let by_leads = ByLeads { gaps, list, stations, aside };
+    let by_leads = ByLeads {
+        gaps,
+        list,
+        stations,
+        aside,
+    };
     fill_rows::<F, ByLeads<G>>(&by_leads, stations, pages, tally);
     true
 }

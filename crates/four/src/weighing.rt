@@ -32,7 +32,12 @@ pub(crate) enum Weighing {
     Doubted(Relied),
 }
 
-pub(crate) fn weigh_rows<F: Field>(stations: usize, pages: usize, bound: usize, tally: &mut [u32]) -> Weighing
+pub(crate) fn weigh_rows<F: Field>(
+    stations: usize,
+    pages: usize,
+    bound: usize,
+    tally: &mut [u32],
+) -> Weighing
     requires least { ⌜ 4 ≤ stations ⌝ }
     requires few { ⌜ stations ≤ 8 ⌝ }
     requires some { ⌜ 1 ≤ pages ⌝ }

@@ -24,13 +24,13 @@ abbrev pub Ends : Ops → (N t : ℕ) → List ℕ → (before after : Lent) →
 Ends f N t values before after status =
     (Accepted (solving f N t values) × (status ≡ 0) × Solved f N t values (after .count) (after .list) × (after .place ≡ before .place))
     ⊎ ((Accepted (solving f N t values) × (status ≡ 254) × ((e : ℕ → ℕ) → Solution f N t values e → ⊥)
-      × (after .list ≡ before .list) × (after .count ≡ before .count) × (after .place ≡ before .place))
+    × (after .list ≡ before .list) × (after .count ≡ before .count) × (after .place ≡ before .place))
     ⊎ ((refusal : Refusal) × Refused (solving f N t values) refusal × (status ≡ number refusal)
-      × (after .list ≡ before .list) × (after .count ≡ before .count) × (after .place ≡ place refusal)))
+    × (after .list ≡ before .list) × (after .count ≡ before .count) × (after .place ≡ place refusal)))
 
 -- the same in the field with a number; 255 where there is none
 abbrev pub EndsIn : ℕ → (N t : ℕ) → List ℕ → (before after : Lent) → (status : ℕ) → Type 0
 EndsIn field N t values before after status =
     ((name : FieldName) × (field ≡ number-of name) × Ends (ops-of name) N t values before after status)
     ⊎ (((name : FieldName) → field ≡ number-of name → ⊥) × (status ≡ 255)
-      × (after .list ≡ before .list) × (after .count ≡ before .count) × (after .place ≡ before .place))
+    × (after .list ≡ before .list) × (after .count ≡ before .count) × (after .place ≡ before .place))

@@ -20,7 +20,7 @@ use Rattle.solve.specs.Solution as of
 use Rattle.solve.specs.Solution.{solving}
 use Rattle.scheme.specs.Farm.{Table}
 use Rattle.scheme.specs.Differences.{gap, Solution, Unsolved}
-use Rattle.pairs.proofs.Listings.{listed-weight}
+use Rattle.solve.proofs.Values.{listed-weight}
 
 module _ {f : Ops} (l : Laws f) (N h : ℕ) (T : Table) (s t : ℕ) (values : List ℕ) (long : h ≤ length values)
     (are : (k : ℕ) → k < h → getD values k 0 ≡ gap f T s t (k + 1)) where
@@ -46,7 +46,7 @@ module _ {f : Ops} (l : Laws f) (N h : ℕ) (T : Table) (s t : ℕ) (values : Li
 
   pub pair-solved : (m : ℕ) (list : List Entry) → Solved f N (h / 2) V m list
       → Solution f N h T s t (code-at list) × (m ≡ weight N (code-at list))
-  pair-solved m list x = (of-pair (code-at list) (x .solves), sym (listed-weight N m list (x .listed)))
+  pair-solved m list x = (of-pair (code-at list) (x .solves), sym (listed-weight f N m list (x .listed)))
 
   pub pair-unsolved : ((e : ℕ → ℕ) → of.Solution f N (h / 2) V e → ⊥) → Unsolved f N h T s t
   pair-unsolved none e x = none e (of-values e x)

@@ -1,4 +1,3 @@
-pub mod Listings
 pub mod Answering
 pub mod Standing
 pub mod Suspecting

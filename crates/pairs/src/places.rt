@@ -1,11 +1,10 @@
 // Reading the differences of pairs. A pair of other stations than 1 to 8 reads as one without a solution.
 ghost use mathlib.Core.Path.{_≡_};
-ghost use Rattle.solve.specs.Answer.{code-at};
 ghost use Rattle.pairs.specs.Held.{pair-place, held, answered-weight, code-of, gaps-in};
 use crate::pair_gap::PairGap;
 use crate::pair_gaps::PairGaps;
 use field::Field;
-use solve::Entry;
+use solve::code_at;
 
 // The difference of the stations s and t on a page.
 pub fn gap_in<F: Field>(gaps: &PairGaps, s: usize, t: usize, page: usize) -> u32
@@ -53,22 +52,7 @@ fn code_in(gaps: &PairGaps, place: usize, page: usize) -> u32
         return 0;
     }
     match &gaps.pairs[place] {
-        Some(gap) => listed_code(&gap.list, page),
+        Some(gap) => code_at(&gap.list, page),
         None => 0,
     }
-}
-
-// The code that a list has for a page, before its first page 0.
-fn listed_code(list: &[Entry; 129], page: usize) -> u32
-    ensures { λ r. ⌜ r ≡ code-at (now (list .entry)) page ⌝ }
-{
-    for entry in list {
-        if entry.page == 0 {
-            return 0;
-        }
-        if entry.page == page {
-            return entry.code;
-        }
-    }
-    0
 }

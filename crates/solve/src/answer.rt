@@ -27,7 +27,7 @@ pub fn solve<F: Field>(
 ) -> Result<Option<usize>, Refusal>
     ensures { λ r. ⌜ Cases r
         (λ answer. Accepted (solving (F·Field .ops) pages weight (now (values .entry)))
-            × Answer (F·Field .ops) pages weight (now (values .entry)) (now (list .entry)) (now (list .exit)) answer)
+        × Answer (F·Field .ops) pages weight (now (values .entry)) (now (list .entry)) (now (list .exit)) answer)
         (λ refusal. Refused (solving (F·Field .ops) pages weight (now (values .entry))) refusal × (now (list .exit) ≡ now (list .entry))) ⌝ }
 {
     accept::<F>(pages, values, weight)?;

@@ -25,8 +25,8 @@ impl<'a, F: Field> Shelf<'a, F> {
     pub fn new(job: &'a [u8], page_length: usize) -> Result<Shelf<'a, F>, Refusal>
         ensures { λ r. ⌜ Cases r
             (λ shelf. Accepted (cutting (F·Field .ops) «page_length» (length (now (job .entry))))
-                × (now (shelf .job) ≡ now (job .entry)) × (shelf .«page_length» ≡ «page_length»)
-                × (shelf .pages ≡ page-count «page_length» (length (now (job .entry)))))
+            × (now (shelf .job) ≡ now (job .entry)) × (shelf .«page_length» ≡ «page_length»)
+            × (shelf .pages ≡ page-count «page_length» (length (now (job .entry)))))
             (Refused (cutting (F·Field .ops) «page_length» (length (now (job .entry))))) ⌝ }
     {
         match page::count_pages::<F>(job.len(), page_length) {

@@ -50,7 +50,9 @@ fn sum_place(pages: usize, station: usize, j: usize) -> usize
 fn row_start(pages: usize, station: usize) -> usize
     ensures { λ r. ⌜ r ≡ min (Rows.row-start pages station) (2 ^ 64 - 1) ⌝ }
 {
-    station.saturating_sub(1).saturating_mul(pages.saturating_add(SUM_COUNT))
+    station
+        .saturating_sub(1)
+        .saturating_mul(pages.saturating_add(SUM_COUNT))
 }
 
 fn word(tally: &[u32], place: usize) -> u32

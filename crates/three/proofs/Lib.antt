@@ -1,5 +1,3 @@
-pub mod Values
-pub mod Codes
 pub mod Places
 pub mod Filling
 pub mod Lightest

@@ -7,6 +7,7 @@ ghost use Rattle.tally.specs.Rows.{tally-size};
 ghost use Rattle.three.specs.Written.{RowWritten};
 use field::Field;
 use solve::Entry;
+use solve::code_at;
 use tally::put_signature;
 use tally::signature_in;
 
@@ -28,19 +29,4 @@ pub(crate) fn apply<F: Field>(
         let code = code_at(list, page);
         put_signature(tally, pages, to, page, F::sub(signature, code));
     }
-}
-
-// The code that a list gives a page; what stands after the first page 0 counts for nothing.
-fn code_at(list: &[Entry; 129], page: usize) -> u32
-    ensures { λ r. ⌜ r ≡ Answer.code-at (now (list .entry)) page ⌝ }
-{
-    for entry in list {
-        if entry.page == 0 {
-            return 0;
-        }
-        if entry.page == page {
-            return entry.code;
-        }
-    }
-    0
 }

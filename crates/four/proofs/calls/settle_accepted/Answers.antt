@@ -22,8 +22,7 @@ returns-then-settle-aside g c =
     let i = c .aside-aside .result in
     let P : List ℕ → Type 0 = λ xs. Aside f M N bound E i xs after true in
     let Q : ℕ → Type 0 = Doubted f M N bound (sum-in before N) E in
-    let settled = subst P (c .in-Doubted .ensures tt .1) (c .if-settle-aside .ensures tt) in
-    (
+    let settled = subst P (c .in-Doubted .ensures tt .1) (c .if-settle-aside .ensures tt) in (
       row-from-leads f M (signature-in before N 1) E i (settled .0),
       inr (E, i, settled .0, subst Q (sym (c .aside-aside .ensures)) (c .in-Doubted .ensures tt .0), settled .1, λ s n a p. refl),
       settled .2,

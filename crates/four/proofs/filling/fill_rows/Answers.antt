@@ -22,9 +22,11 @@ loop-before-again g c =
     let R : Table = λ t n. f .minus (signature-in before N 1 n) (E 1 t n) in
     let from : 1 ≤ k = omega arith in
     let P : ℕ → Type 0 = λ s. RowPut N N s middle after (λ n. f .minus (signature-in middle N 1 n) (E 1 s n)) in
-    let put = subst P (let e : k - 1 + 1 ≡ k = omega arith in e) (c .fill-row .ensures) in
-    (omega arith, rows-more M N k before middle after R (c .loop-before .inv .1) from (omega arith) (λ n. f .minus (signature-in middle N 1 n) (E 1 k n)) put
-    (λ n page. ap (λ x. f .minus x (E 1 k n)) (own-stands M N k before middle after R (c .loop-before .inv .1) from n page)))
+    let put = subst P (let e : k - 1 + 1 ≡ k = omega arith in e) (c .fill-row .ensures) in (
+      omega arith,
+      rows-more M N k before middle after R (c .loop-before .inv .1) from (omega arith) (λ n. f .minus (signature-in middle N 1 n) (E 1 k n)) put
+          (λ n page. ap (λ x. f .minus x (E 1 k n)) (own-stands M N k before middle after R (c .loop-before .inv .1) from n page)),
+    )
 
 pub returns : need.returns
 returns g c =

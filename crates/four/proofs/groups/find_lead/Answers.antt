@@ -15,11 +15,11 @@ loop-before-again g c =
     let largest : c .loop-before .largest ≡ sizes lead = c .loop-before .inv .1 in
     let size : c .group-size-size .result ≡ sizes (k + 1) = c .group-size-size .ensures in
     elim (c .if-largest-size .came) [
-      then-largest-size w ↦ (
+      | then-largest-size w ↦ (
         w .lead-is ∙ top-later sizes k lead is (let h : sizes lead < sizes (k + 1) = omega (arith, w .if-largest-size .taken) in h),
         w .largest-is ∙ size ∙ ap sizes (sym (w .lead-is)),
       )
-    | else-largest-size w ↦ (
+      | else-largest-size w ↦ (
         w .lead-is ∙ top-stays sizes k lead is (let h : sizes (k + 1) ≤ sizes lead = omega (arith, w .if-largest-size .left) in h),
         w .largest-is ∙ largest ∙ ap sizes (sym (w .lead-is)),
       )

@@ -19,10 +19,9 @@ loop-before-again g c =
     let inside : k < length row = omega (arith, c .loop-before .inv .0) in
     let is : v ≡ value (k + 1) =
     c .gap .ensures ∙ ap (λ s. E s (c .find-lead-lead .result) (k + 1)) (c .station-beside-beside .ensures) ∙ ap (λ t. E (beside (c .args .aside)) t (k + 1)) (c .find-lead-lead .ensures) in
-    let P : ℕ → Type 0 = λ i. getD (set row k v) i 0 ≡ value (suc i) in
-    (
+    let P : ℕ → Type 0 = λ i. getD (set row k v) i 0 ≡ value (suc i) in (
       length-set row k v ∙ c .loop-before .inv .0,
       below-more P k
-      (λ i h. getD-set-other row k i v 0 (let ne : i ≢ k = omega arith in ne) ∙ c .loop-before .inv .1 i h)
-      (getD-set-same row k v 0 inside ∙ is ∙ ap value (add-one k)),
+          (λ i h. getD-set-other row k i v 0 (let ne : i ≢ k = omega arith in ne) ∙ c .loop-before .inv .1 i h)
+          (getD-set-same row k v 0 inside ∙ is ∙ ap value (add-one k)),
     )

@@ -31,10 +31,9 @@ loop-k-again g c =
     c .add .ensures
     ∙ ap₂ (f .plus)
     (c .sub-gap .ensures ∙ ap₂ (f .minus) (c .sum-in .ensures) (c .sum-in-in-loop-k .ensures ∙ ap (λ b. T b (k + 1)) (c .station-beside-beside .ensures)))
-    (c .row-sum .ensures ∙ front-sum f row N leads (k + 1) (omega (arith, full, c .pre .narrow)) (c .lead-gaps-row .ensures)) in
-    (
+    (c .row-sum .ensures ∙ front-sum f row N leads (k + 1) (omega (arith, full, c .pre .narrow)) (c .lead-gaps-row .ensures)) in (
       length-set values k v ∙ c .loop-k .inv .0,
       below-more P k
-      (λ j h. getD-set-other values k j v 0 (let ne : j ≢ k = omega arith in ne) ∙ c .loop-k .inv .1 j h)
-      (getD-set-same values k v 0 inside ∙ is),
+          (λ j h. getD-set-other values k j v 0 (let ne : j ≢ k = omega arith in ne) ∙ c .loop-k .inv .1 j h)
+          (getD-set-same values k v 0 inside ∙ is),
     )

@@ -5,7 +5,7 @@ use lib.ListN.{length, take}
 use Rattle.scheme.specs.Differences.{gap}
 use Rattle.solve.specs.Answer.{Answer}
 use Rattle.tally.specs.Rows.{sum-in}
-use Rattle.three.proofs.Values.{unsolved, list-solves, list-weighs, not-refused}
+use Rattle.solve.proofs.Values.{unsolved, list-solves, list-weighs, not-refused}
 use Rattle.three.proofs.difference.solve_pair.Needs as need
 
 pub returns-in-Some : need.returns-in-Some

@@ -1,0 +1,2 @@
+pub mod FromFour
+pub mod FromThree
