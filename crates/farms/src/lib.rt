@@ -54,7 +54,13 @@ mod tests {
     fn tell_row(tally: &mut [u32], farm: Farm, station: u8, row: &[u32], signatures: bool) {
         if signatures {
             for (before, signature) in row.iter().enumerate() {
-                tally::put_signature(tally, farm.pages as usize, station as usize + 1, before + 1, *signature);
+                tally::put_signature(
+                    tally,
+                    farm.pages as usize,
+                    station as usize + 1,
+                    before + 1,
+                    *signature,
+                );
             }
         }
         for j in 1..129 {
@@ -67,7 +73,13 @@ mod tests {
         let mut tally = vec![in heap; 0u32; farm.stations as usize * (farm.pages as usize + 128)]?;
         for station in 0..farm.stations {
             let row = row_of(heap, farm, input, station)?;
-            tell_row(tally.as_mut_slice(), farm, station, row.as_slice(), station == 0 || is_plain(farm));
+            tell_row(
+                tally.as_mut_slice(),
+                farm,
+                station,
+                row.as_slice(),
+                station == 0 || is_plain(farm),
+            );
         }
         Ok(tally)
     }
@@ -77,7 +89,11 @@ mod tests {
         if is_plain(farm) {
             return Ok(Outcome::Filled);
         }
-        let (stations, pages, bound) = (farm.stations as usize, farm.pages as usize, farm.bound as usize);
+        let (stations, pages, bound) = (
+            farm.stations as usize,
+            farm.pages as usize,
+            farm.bound as usize,
+        );
         match verdict::weigh::<Small>(stations, pages, bound, tally)? {
             Outcome::Asks(_) => Ok(verdict::settle::<Small>(stations, pages, bound, tally)?),
             other => Ok(other),
@@ -88,7 +104,16 @@ mod tests {
         for station in 1..farm.stations as usize + 1 {
             for page in 1..farm.pages as usize + 1 {
                 let listed = bad.contains(&(station, page));
-                check_eq(tally::is_bad(tally, farm.stations as usize, farm.pages as usize, station, page), listed)?;
+                check_eq(
+                    tally::is_bad(
+                        tally,
+                        farm.stations as usize,
+                        farm.pages as usize,
+                        station,
+                        page,
+                    ),
+                    listed,
+                )?;
             }
         }
         Ok(())
@@ -99,7 +124,11 @@ mod tests {
         let mut tally = tell_all(heap, farm, case.input)?;
         let outcome = judge(farm, tally.as_mut_slice())?;
         let split = match outcome {
-            Outcome::Filled => tally::first_split(tally.as_slice(), farm.stations as usize, farm.pages as usize),
+            Outcome::Filled => tally::first_split(
+                tally.as_slice(),
+                farm.stations as usize,
+                farm.pages as usize,
+            ),
             Outcome::Split(page) => Some(page),
             _ => None,
         };
