@@ -15,6 +15,8 @@ extern "C" {
         count: *mut usize,
         place: *mut usize,
     ) -> u32;
+    fn wulambey_weigh(field: u32, stations: usize, pages: usize, bound: usize, tally: *mut u32, len: usize, place: *mut usize) -> u32;
+    fn wulambey_settle(field: u32, stations: usize, pages: usize, bound: usize, tally: *mut u32, len: usize, place: *mut usize) -> u32;
     fn flint_roots(values: *const u32, count: usize, pages: usize) -> usize;
 }
 
@@ -33,6 +35,47 @@ fn solve(field: u32, pages: usize, values: &[u32], weight: usize, list: &mut [En
         unsafe { wulambey_solve(field, pages, values.as_ptr(), values.len(), weight, list.as_mut_ptr(), &mut count, &mut place) };
     assert_eq!(status, 0);
     count
+}
+
+const PAGES: usize = 1920;
+const STATIONS: usize = 8;
+const BOUND: usize = 64;
+
+/// The words of a station's row: its signatures, then 128 sums.
+const ROW: usize = PAGES + 128;
+
+/// Weighs the tally and, where a station is to be asked again, settles it; the sums are all there. Whether it was asked.
+fn judge(field: u32, tally: &mut [u32]) -> bool {
+    const ASKS: u32 = 253;
+    let mut place = 0;
+    let first = unsafe { wulambey_weigh(field, STATIONS, PAGES, BOUND, tally.as_mut_ptr(), tally.len(), &mut place) };
+    if first == ASKS {
+        let second = unsafe { wulambey_settle(field, STATIONS, PAGES, BOUND, tally.as_mut_ptr(), tally.len(), &mut place) };
+        assert_eq!(second, 0);
+        return true;
+    }
+    assert_eq!(first, 0);
+    false
+}
+
+/// Times the judgement of rows that differ from row 1 by the strays, (station, page, code).
+fn time_judgement(name: &str, number: u32, farm: &str, row: &[u32], strays: &[(usize, usize, u32)]) {
+    let mut rows = vec![row.to_vec(); STATIONS];
+    for (station, page, code) in strays {
+        rows[station - 1][page - 1] ^= code;
+    }
+    let mut tally = vec![0; STATIONS * ROW];
+    for (words, row) in tally.chunks_mut(ROW).zip(&rows) {
+        words[PAGES..].iter_mut().zip(1..).for_each(|(sum, j)| *sum = row_sum(number, row, j));
+    }
+    tally[..PAGES].copy_from_slice(&rows[0]);
+    let start = tally.clone();
+    let (time, asked) = best(20, || {
+        tally.copy_from_slice(&start);
+        judge(number, black_box(&mut tally))
+    });
+    assert!(tally.chunks(ROW).zip(&rows).all(|(words, row)| words[..PAGES] == row[..]));
+    println!("{:<8}{:<28}{:>8}{:>10.1}", name, farm, if asked { "yes" } else { "no" }, time / 1_000_000.0);
 }
 
 fn page_signature(field: u32, job: &[u8], length: usize, page: usize) -> u32 {
@@ -102,7 +145,6 @@ mod plain {
 
 fn main() {
     const LENGTH: usize = 4096;
-    const PAGES: usize = 1920;
     let mut state = 1u32;
     let mut next = || {
         state = state.wrapping_mul(1664525).wrapping_add(1013904223);
@@ -153,5 +195,14 @@ fn main() {
         } else {
             println!("{:<8}{:>12.0}{:>14}{:>8}", name, ours / 1000.0, "-", "-");
         }
+    }
+
+    println!("judging {} stations, {} pages, bound {}", STATIONS, PAGES, BOUND);
+    println!("{:<8}{:<28}{:>8}{:>10}", "field", "stray copies", "asked", "ms");
+    let one_station: Vec<_> = (1..=BOUND).map(|n| (5, 29 * n, 1 + (next() & 0x7FFF))).collect();
+    let all_stations: Vec<_> = (1..=BOUND).map(|n| (1 + n % STATIONS, 29 * n, 1 + (next() & 0x7FFF))).collect();
+    for (name, number) in [("wide", 2), ("prime", 3)] {
+        time_judgement(name, number, "64 at one station", &row, &one_station);
+        time_judgement(name, number, "8 at each station", &row, &all_stations);
     }
 }

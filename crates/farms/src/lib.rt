@@ -150,4 +150,15 @@ mod tests {
         }
         Ok(())
     }
+
+    // One page, two copies of each kind: no majority.
+    #[test]
+    fn two_halves() -> Result<(), Fail> {
+        let mut tally = [0; 4 * 129];
+        tally[0] = 5;
+        tally[129] = 5;
+        tally[258] = 6;
+        tally[387] = 6;
+        check_eq(tally::first_split(&tally, 4, 1), Some(1))
+    }
 }

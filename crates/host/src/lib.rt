@@ -12,6 +12,7 @@ use fields::FieldName;
 use prime::Prime;
 use prime::PrimeField;
 
+mod judging;
 mod solving;
 
 // What is returned where no field has the number; it is no code of any field.
