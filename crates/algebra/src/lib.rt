@@ -1,4 +1,6 @@
 // Three theorems of every field: what the first sums of a vector of codes tell of it.
+#![tactic(auto)]
+
 ghost use Rattle.algebra.specs.Vectors.{Vanishing, Unique, Far};
 
 // A vector of weight at most J whose sums 1 to J are 0 is 0.

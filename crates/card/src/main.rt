@@ -1,4 +1,6 @@
 // `card FIELD LENGTH < JOB` writes the signature card of a sliced job.
+#![tactic(auto)]
+
 use fields::FieldName;
 use std::io::{Read, Write};
 use std::num::IntErrorKind;

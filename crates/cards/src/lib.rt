@@ -1,4 +1,6 @@
 // The signature card of a job, as the text that a slicer writes.
+#![tactic(auto)]
+
 mod choice;
 mod line;
 mod text;

@@ -1,4 +1,6 @@
 // Tests of the verdict: small farms, judged from their sums.
+#![tactic(auto)]
+
 #[cfg(test)]
 mod cases;
 

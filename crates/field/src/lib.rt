@@ -1,4 +1,6 @@
 // A finite field: its calls, its laws, and what follows from them for every field.
+#![tactic(auto)]
+
 ghost use Rattle.std.specs.Prelude.{◌≡◌, ℕ};
 ghost use Rattle.field.specs.Field.{Ops, Laws, Spread, power};
 

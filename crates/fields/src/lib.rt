@@ -1,4 +1,6 @@
 // The three fields, by name and by number.
+#![tactic(auto)]
+
 ghost use Rattle.std.specs.Prelude.{◌≡◌, Some, None, ◌≢◌};
 ghost use Rattle.fields.specs.Names.{name_of, number_of};
 ghost use Rattle.fields.specs.declared.FieldName.{FieldName as Name};

@@ -1,4 +1,6 @@
 // Four stations and more: weighing and settling them by the rows of a lent tally.
+#![tactic(auto)]
+
 mod adding;
 mod calls;
 mod filling;

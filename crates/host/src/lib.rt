@@ -1,4 +1,6 @@
 // Calls for programs in C and Rust: numbers and slices in, numbers out.
+#![tactic(auto)]
+
 ghost use Rattle.std.specs.Prelude.{◌≡◌, length};
 ghost use Rattle.field.specs.Sums.{entry, power_sum};
 ghost use Rattle.page.specs.Pages.{page_signature};

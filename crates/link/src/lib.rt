@@ -1,4 +1,6 @@
 // Words on the link: requests and replies, written, read back and refused.
+#![tactic(auto)]
+
 mod asked;
 mod garbled;
 mod reply;

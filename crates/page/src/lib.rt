@@ -1,4 +1,6 @@
 // Pages of a job, their signatures, and the sums of a row of signatures.
+#![tactic(auto)]
+
 mod count;
 mod job;
 mod page;

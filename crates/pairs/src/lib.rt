@@ -1,4 +1,6 @@
 // The differences of all pairs of stations, solved from the sums of the first asking; which pairs are suspect, and what shape these have.
+#![tactic(auto)]
+
 mod doubt;
 mod pair_gap;
 mod pair_gaps;

@@ -1,4 +1,6 @@
 // The field of the whole numbers modulo 65,537.
+#![tactic(auto)]
+
 ghost use Rattle.std.specs.Prelude.{◌≡◌};
 ghost use Rattle.prime.specs.Prime.{prime};
 ghost use Rattle.prime.specs.Laws.{prime_laws, prime_spread};

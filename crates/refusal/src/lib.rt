@@ -1,4 +1,6 @@
 // Refusals: each has a number and a place, and says what was wrong where.
+#![tactic(auto)]
+
 ghost use Rattle.std.specs.Prelude.{◌≡◌, ◌++◌, Some, codes, decimal};
 ghost use Rattle.refusal.specs.Numbers;
 ghost use Rattle.refusal.specs.Numbers.{refusal_text};

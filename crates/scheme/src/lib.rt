@@ -1,4 +1,6 @@
 // What the rules find of a farm's table by the sums that are told: the truth, where there are few enough stray copies.
+#![tactic(auto)]
+
 ghost use Rattle.scheme.specs.Theorem.{Right, One, Total, Additive, Coded, Closes, SuspectByAnswers, Sample};
 
 // In a plain farm, and in any other with no more stray copies than the bound, the rules end in a split of a page without a majority or in a report on

@@ -1,4 +1,6 @@
 // Solving a difference: from a few sums of it, the pages where it is not 0, with their codes.
+#![tactic(auto)]
+
 mod answer;
 mod candidates;
 mod entries;

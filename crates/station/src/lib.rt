@@ -1,4 +1,6 @@
 // Stations: what they mean, what they answer, and serving requests.
+#![tactic(auto)]
+
 mod card;
 mod serving;
 mod shelf;

@@ -1,4 +1,6 @@
 // A tally, lent by its owner: a row for each station, its signatures and then its sums.
+#![tactic(auto)]
+
 mod closing;
 mod listing;
 mod places;

@@ -1,4 +1,6 @@
 // Three stations: weighing and settling them by the rows of a lent tally.
+#![tactic(auto)]
+
 mod accept;
 mod counts;
 mod difference;

@@ -1,4 +1,6 @@
 // Tests of the fields, signatures and sums against values that other implementations and the literature give.
+#![tactic(auto)]
+
 #[cfg(test)]
 mod arithmetic;
 #[cfg(test)]

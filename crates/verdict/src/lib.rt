@@ -1,4 +1,6 @@
 // The verdict on the rows of a lent tally.
+#![tactic(auto)]
+
 mod calls;
 
 pub use calls::{settle, weigh};
