@@ -11,8 +11,8 @@ loop-before-preserved g c =
     let j = c.args.j in
     let n = c.loop-before.before in
     let weight = c.loop-before.weight in
-    let code = c.page-signature.result in
-    let here : code ≡ signatures (suc n) = c.page-signature.ensures ∙ ap signatures (add-one n) in
+    let code = c.page_signature.result in
+    let here : code ≡ signatures (suc n) = c.page_signature.ensures ∙ ap signatures (add-one n) in
     let more = sum_more l signatures j n code weight c.loop-before.total here c.loop-before.invariant.1 c.loop-before.invariant.0 in
     let next = weight_more l signatures j n weight c.loop-before.invariant.1 in
     (cc, cc)

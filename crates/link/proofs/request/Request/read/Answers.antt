@@ -9,7 +9,7 @@ use Rattle.link.proofs.request.Request.read.Goals.{then-first-eq3, else-first-eq
 pub returns : goal.returns
 returns c =
     let words = c.args.words.now in
-    let whole = c.in-default.ensures in
+    let whole = c.in_default.ensures in
     let kind : kind_of (get_or words 2 0) ≡ asked_kind c.if-first-eq3.asked =
     elim c.if-first-eq3.branch [
       | then-first-eq3 w ↦ w.if-first-eq3.true ∙ sym (ap asked_kind w.asked-is)
