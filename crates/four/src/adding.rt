@@ -34,8 +34,8 @@ fn seconds_add<F: Field, G: RowGaps<F>>(
     aside: usize,
     s: usize,
 ) -> bool
-    requires stations_bound { stations ≤ 8 }
-    requires s_le_stations { s ≤ stations }
+    requires few_stations { stations ≤ 8 }
+    requires s_within { s ≤ stations }
     ensures { elim result [
       | true ↦ SecondsAdd F.Field.ops pages (G.RowGaps.gaps gaps.now) stations aside s
       | false ↦ SecondBreaks F.Field.ops pages (G.RowGaps.gaps gaps.now) stations aside s
@@ -57,8 +57,8 @@ fn thirds_add<F: Field, G: RowGaps<F>>(
     s: usize,
     t: usize,
 ) -> bool
-    requires stations_bound { stations ≤ 8 }
-    requires t_le_stations { t ≤ stations }
+    requires few_stations { stations ≤ 8 }
+    requires t_within { t ≤ stations }
     ensures { elim result [
       | true ↦ ThirdsAdd F.Field.ops pages (G.RowGaps.gaps gaps.now) stations aside s t
       | false ↦ ThirdBreaks F.Field.ops pages (G.RowGaps.gaps gaps.now) stations aside s t

@@ -94,8 +94,8 @@ fn value(word: u32) -> u32
 
 // A word of this kind with this value.
 fn word(kind: u32, value: u32) -> u32
-    requires kind_bound { kind < 16 }
-    requires value_bound { value < 2 ^ 28 }
+    requires kind_fits { kind < 16 }
+    requires value_fits { value < 2 ^ 28 }
     ensures { result ≡ Words.word kind value }
 {
     kind * VALUE_LIMIT + value

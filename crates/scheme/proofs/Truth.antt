@@ -191,9 +191,9 @@ module _ (f : Ops) (M N bound : ℕ) (P T U : Table) (own : ℕ → ℕ) where
   finds_weighed : Laws f → Spread f → 3 ≤ M → N ≤ f.places → ¬ Plain M N bound → Weighed f M N bound P T U own → Finds f M N bound P T U own
   finds_weighed l spread three le not w =
       finds
-      (λ x. elim x.1 [ inl y ↦ w.never-over y | inr y ↦ w.settled-never-over y.0.0 y.0.1 y.1 ])
-      (λ R x. elim x [ inl y ↦ y.1 | inr y ↦ elim y.1 [ inl z ↦ w.rows_true R z | inr z ↦ w.settled-rows-true z.0.0 z.0.1 R z.1 ] ])
-      (λ n x. elim x.1 [ inl y ↦ w.split-true n y | inr y ↦ absurd (elim y.1 [ inl z ↦ z.1 | inr z ↦ z.1 ]) ])
+      (λ x. elim x.1 [ inl y ↦ w.never_over y | inr y ↦ w.settled_never_over y.0.0 y.0.1 y.1 ])
+      (λ R x. elim x [ inl y ↦ y.1 | inr y ↦ elim y.1 [ inl z ↦ w.rows_true R z | inr z ↦ w.settled_rows_true z.0.0 z.0.1 R z.1 ] ])
+      (λ n x. elim x.1 [ inl y ↦ w.split_true n y | inr y ↦ absurd (elim y.1 [ inl z ↦ z.1 | inr z ↦ z.1 ]) ])
       (from some.0.0 some.0.1)
     where
       some : ((o : Outcome) × Weighs f M N bound T own o)
@@ -201,13 +201,13 @@ module _ (f : Ops) (M N bound : ℕ) (P T U : Table) (own : ℕ → ℕ) where
       some = some_outcome f l spread M N bound three le T U own
 
       settled : (k : ℕ) → Weighs f M N bound T own (asks k) → (o : Outcome) → Settles f M N bound T U own o → (R : Table) × Fills f M N bound T U own P R
-      settled k x over y = absurd (w.settled-never-over k x y)
+      settled k x over y = absurd (w.settled_never_over k x y)
       settled k x (filled R) y = (R, inr (not, inr ((k, x), y)))
       settled k x (split n) y = absurd (elim y [ inl z ↦ z.1 | inr z ↦ z.1 ])
       settled k x (asks j) y = absurd (elim y [ inl z ↦ z.1 | inr z ↦ z.1 ])
 
       from : (o : Outcome) → Weighs f M N bound T own o → ((n : ℕ) × Comes f M N bound T U own (split n)) ⊎ ((R : Table) × Fills f M N bound T U own P R)
-      from over x = absurd (w.never-over x)
+      from over x = absurd (w.never_over x)
       from (split n) x = inl (n, (not, inl x))
       from (filled R) x = inr (R, inr (not, inl x))
       from (asks k) x = let r = (some.1 k x).2 in inr (settled k x r.0 r.1)

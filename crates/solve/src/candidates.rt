@@ -20,9 +20,9 @@ pub(crate) struct Candidates {
 
 // Pages that hold each entry of each solution: all of them, or those that a locator finds.
 pub(crate) fn choose<F: Field>(pages: usize, values: &[u32], weight: usize) -> Candidates
-    requires pages_bound { pages ≤ F.Field.ops.places }
-    requires values_len_bound { length values.now ≤ 128 }
-    requires fact { (length values.now ≡ pages) ⊎ (weight + weight ≤ length values.now) }
+    requires few_pages { pages ≤ F.Field.ops.places }
+    requires few_values { length values.now ≤ 128 }
+    requires enough { (length values.now ≡ pages) ⊎ (weight + weight ≤ length values.now) }
     ensures { Covers F.Field.ops pages weight values.now result.count (at result.pages) (at result.points) }
 {
     if values.len() == pages {

@@ -38,8 +38,8 @@ fn product<F: Field>(points: &[u32; 129], count: usize) -> [u32; 129]
 // The entry at the point x of a vector whose entries are at the roots of the product, `count` of them.
 // `quotient` runs over the coefficients of the product divided by its root x, from the highest on.
 fn entry<F: Field>(product: &[u32; 129], count: usize, x: u32, values: &[u32]) -> u32
-    requires count_bound { count ≤ 128 }
-    requires count_in_bounds { count ≤ length values.now }
+    requires few { count ≤ 128 }
+    requires values_reach { count ≤ length values.now }
     ensures { result ≡ interpolated F.Field.ops count (at product.now) x (at values.now) }
 {
     let mut quotient = 0;

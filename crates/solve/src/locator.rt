@@ -18,8 +18,8 @@ pub(crate) struct Locator {
 // At each turn `locator` is monic of `degree` and 0 against the first `cleared` windows of the values; `previous` is 0 against the
 // first degree - 1, and comes to `divisor` against the next. A window is as many values in a row as there are coefficients.
 pub(crate) fn locate<F: Field>(values: &[u32], weight: usize) -> Locator
-    requires weight_bound { weight ≤ 64 }
-    requires weight_in_bounds { weight + weight ≤ length values.now }
+    requires light { weight ≤ 64 }
+    requires values_reach { weight + weight ≤ length values.now }
     ensures { Locates F.Field.ops weight (at values.now) (at result.coefficients) result.terms }
 {
     let mut locator = [0; 129];

@@ -23,8 +23,8 @@ pub(crate) fn against<F: Field>(
     values: &[u32],
     from: usize,
 ) -> u32
-    requires terms_bound { terms ≤ 129 }
-    requires terms_in_bounds { from + terms ≤ length values.now }
+    requires few_terms { terms ≤ 129 }
+    requires values_reach { from + terms ≤ length values.now }
     ensures { result ≡ window F.Field.ops terms (at coefficients.now) 0 (at values.now) from }
 {
     let mut sum = 0;

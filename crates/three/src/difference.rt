@@ -28,7 +28,7 @@ pub(crate) fn solve_pair<F: Field>(
     count: usize,
     weight: usize,
 ) -> Option<Difference>
-    requires le_pages { (1 ≤ pages) × (pages ≤ page_limit F.Field.ops) }
+    requires page_range { (1 ≤ pages) × (pages ≤ page_limit F.Field.ops) }
     requires enough { Enough pages weight count }
     ensures { DifferenceOf F.Field.ops pages weight count (Rows.sum_in tally.now pages) first second result }
 {
@@ -58,7 +58,7 @@ fn sum_gaps<F: Field>(
     count: usize,
 ) -> [u32; 128]
     requires { count ≤ 128 }
-    ensures { (length result ≡ 128) × (((i : ℕ) → i < count → slice_index result i ≡ gap F.Field.ops (Rows.sum_in tally.now pages) first second (i + 1))) }
+    ensures { (length result ≡ 128) × ((i : ℕ) → i < count → slice_index result i ≡ gap F.Field.ops (Rows.sum_in tally.now pages) first second (i + 1)) }
 {
     let mut gaps = [0; 128];
     for i in 0..count {

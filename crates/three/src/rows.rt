@@ -16,9 +16,9 @@ pub(crate) fn apply<F: Field>(
     to: usize,
     list: &[Entry; 129],
 )
-    requires le_from { (1 ≤ from) × ((1 ≤ to) × ((from ≢ to))) }
-    requires pages_bound { pages < 2 ^ 64 - 1 }
-    requires pages_in_bounds { tally_size to pages ≤ length tally.old }
+    requires two_stations { (1 ≤ from) × (1 ≤ to) × (from ≢ to) }
+    requires pages_fit { pages < 2 ^ 64 - 1 }
+    requires rows_reach { tally_size to pages ≤ length tally.old }
     ensures { RowWritten F.Field.ops pages pages from to (Answer.code_at list.now) tally.old tally.new }
 {
     for page in 1..pages + 1 {

@@ -50,9 +50,9 @@ pub(crate) fn settle_taken<F: Field>(
     bound: usize,
     taken: &Difference,
 ) -> Settled
-    requires le_pages { (1 ≤ pages) × (pages ≤ page_limit F.Field.ops) }
-    requires bound_bound { bound ≤ 64 }
-    requires pages_in_bounds { Rows.tally_size 3 pages ≤ length tally.old }
+    requires page_range { (1 ≤ pages) × (pages ≤ page_limit F.Field.ops) }
+    requires few_stray { bound ≤ 64 }
+    requires rows_reach { Rows.tally_size 3 pages ≤ length tally.old }
     requires taken { Three.Taken F.Field.ops pages bound (Rows.sum_in tally.old pages) taken.now.first taken.now.second (Answer.code_at taken.now.list) }
     ensures { SettledTaken F.Field.ops pages bound tally.old tally.new result }
 {

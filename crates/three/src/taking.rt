@@ -11,8 +11,8 @@ use field::Field;
 
 // Of the solved differences of {1,2}, {1,3} and {2,3} the one of least weight, and of equal ones the first.
 pub(crate) fn take_pair<F: Field>(tally: &[u32], pages: usize, bound: usize) -> Option<Difference>
-    requires le_pages { (1 ≤ pages) × (pages ≤ page_limit F.Field.ops) }
-    requires bound_bound { bound ≤ 64 }
+    requires page_range { (1 ≤ pages) × (pages ≤ page_limit F.Field.ops) }
+    requires few_stray { bound ≤ 64 }
     ensures { TakenFrom F.Field.ops pages bound (Rows.sum_in tally.now pages) result }
 {
     let count = first_sums(bound);

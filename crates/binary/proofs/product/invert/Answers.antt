@@ -12,9 +12,9 @@ loop-k-init g c = (c.multiply-square.ensures, refl)
 pub loop-k-preserved : goal.loop-k-preserved
 unfolding squared chain
 loop-k-preserved g c =
-    let next : c.loop-k.-k + 1 - 1 ≡ suc (c.loop-k.-k - 1) = omega arith in ((cc), (cc))
+    let next : c.loop-k._k + 1 - 1 ≡ suc (c.loop-k._k - 1) = omega arith in ((cc), (cc))
 
 pub returns : goal.returns
 returns g c =
-    let done : c.loop-k.-k - 1 ≡ g.row.WIDTH - 1 = omega arith in
+    let done : c.loop-k._k - 1 ≡ g.row.WIDTH - 1 = omega arith in
     c.loop-k.invariant.1 ∙ ap (λ n. chain g.row.WIDTH g.row.POLY n (times g.row.WIDTH g.row.POLY c.args.a c.args.a)) done

@@ -10,8 +10,8 @@ use Rattle.binary.specs.Linear.{bit_le}
 use Rattle.binary.specs.Products.{shifted_code}
 use Rattle.binary.proofs.product.multiply.Goals as goal
 
-pub overflow-mul-sum : goal.overflow-mul-sum
-overflow-mul-sum g c =
+pub overflow_mul-sum : goal.overflow_mul-sum
+overflow_mul-sum g c =
     Fits-le (bit_le _ c.loop-k.x) (Fits-of_lt (omega (arith, c.loop-k.invariant.1, pow-lt c.requires.few)))
 
 pub loop-k-preserved : goal.loop-k-preserved
@@ -20,8 +20,8 @@ loop-k-preserved g c =
     let w = g.row.WIDTH in
     let l = c.loop-k in
     let bit = l.y % 2 * l.x in
-    let left = w - (l.-k + 1) in
-    let is : w - l.-k ≡ suc left = omega arith in (
+    let left = w - (l._k + 1) in
+    let is : w - l._k ≡ suc left = omega arith in (
       ap (λ x. bit_xor (bit_xor l.sum bit) (product w g.row.POLY left x (l.y / 2))) c.shift-x.ensures
           ∙ xor_assoc l.sum bit (product w g.row.POLY left (shifted w g.row.POLY l.x) (l.y / 2))
           ∙ ap (λ n. bit_xor l.sum (product w g.row.POLY n l.x l.y)) (sym is)
@@ -33,5 +33,5 @@ pub returns : goal.returns
 unfolding product
 returns g c =
     let l = c.loop-k in
-    let done : g.row.WIDTH - l.-k ≡ 0 = omega arith in
+    let done : g.row.WIDTH - l._k ≡ 0 = omega arith in
     sym (ap (λ n. bit_xor l.sum (product g.row.WIDTH g.row.POLY n l.x l.y)) done ∙ xor_zero_r l.sum) ∙ l.invariant.0

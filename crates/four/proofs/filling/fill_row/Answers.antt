@@ -14,9 +14,9 @@ loop-before-preserved g c =
     let before = c.args.tally.now in
     let middle = c.loop-before.tally in
     let row : ℕ → ℕ = λ n. f.minus (signature_in before N 1 n) (E 1 t n) in
-    let own = c.signature-in-own.ensures ∙ own_unwritten N k t before middle row c.loop-before.invariant c.requires.some c.loop-before-test.true in
+    let own = c.signature_in-own.ensures ∙ own_unwritten N k t before middle row c.loop-before.invariant c.requires.some c.loop-before-test.true in
     let value : c.sub.result ≡ row (k + 1) = c.sub.ensures ∙ ap (λ x. f.minus x c.gap-gap.result) own ∙ ap (f.minus (signature_in before N 1 (k + 1))) c.gap-gap.ensures in
-    row_more N k t before middle c.put-signature.new.tally row c.sub.result c.loop-before.invariant c.loop-before-test.true c.requires.some c.requires.room value c.put-signature.ensures
+    row_more N k t before middle c.put_signature.new.tally row c.sub.result c.loop-before.invariant c.loop-before-test.true c.requires.some c.requires.room value c.put_signature.ensures
 
 pub returns : goal.returns
 returns g c =

@@ -14,11 +14,11 @@ loop-before-preserved g c =
     let k = c.loop-before.before in
     let before = c.args.tally.now in
     let middle = c.loop-before.tally in
-    let after = c.fill-row.new.tally in
+    let after = c.fill_row.new.tally in
     let R : Table = λ t n. f.minus (signature_in before N 1 n) (E 1 t n) in
     let from : 1 ≤ k = omega arith in
     let P : ℕ → Type 0 = λ s. RowPut N N s middle after (λ n. f.minus (signature_in middle N 1 n) (E 1 s n)) in
-    let put = subst P (let e : k - 1 + 1 ≡ k = omega arith in e) c.fill-row.ensures in (
+    let put = subst P (let e : k - 1 + 1 ≡ k = omega arith in e) c.fill_row.ensures in (
       omega arith,
       rows_more M N k before middle after R c.loop-before.invariant.1 from (omega arith) (λ n. f.minus (signature_in middle N 1 n) (E 1 k n)) put
           (λ n page. ap (λ x. f.minus x (E 1 k n)) (own_stands M N k before middle after R c.loop-before.invariant.1 from n page)),

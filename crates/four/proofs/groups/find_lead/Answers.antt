@@ -11,7 +11,7 @@ loop-before-preserved g c =
     let lead = c.loop-before.lead in
     let is = c.loop-before.invariant.0 in
     let largest : c.loop-before.largest ≡ sizes lead = c.loop-before.invariant.1 in
-    let size : c.group-size-size.result ≡ sizes (k + 1) = c.group-size-size.ensures in
+    let size : c.group_size-size.result ≡ sizes (k + 1) = c.group_size-size.ensures in
     elim c.if-largest-size.branch [
       | then-largest-size w ↦ (
         w.lead-is ∙ top_later sizes k lead is (let h : sizes lead < sizes (k + 1) = omega (arith, w.if-largest-size.true) in h),

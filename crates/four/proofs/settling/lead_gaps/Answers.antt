@@ -12,7 +12,7 @@ loop-before-preserved g c =
     let v = c.gap.result in
     let inside : k < length row = omega (arith, c.loop-before.invariant.0) in
     let is : v ≡ value (k + 1) =
-    c.gap.ensures ∙ ap (λ s. E s c.find-lead-lead.result (k + 1)) c.station-beside-beside.ensures ∙ ap (λ t. E (beside c.args.aside) t (k + 1)) c.find-lead-lead.ensures in
+    c.gap.ensures ∙ ap (λ s. E s c.find_lead-lead.result (k + 1)) c.station_beside-beside.ensures ∙ ap (λ t. E (beside c.args.aside) t (k + 1)) c.find_lead-lead.ensures in
     let P : ℕ → Type 0 = λ i. get_or (set row k v) i 0 ≡ value (suc i) in (
       length-set row k v ∙ c.loop-before.invariant.0,
       below_more P k

@@ -15,7 +15,7 @@ loop-k-preserved g c =
     let T = sum_in c.args.tally.now N in
     let leads : ℕ → ℕ = λ n. E (beside i) (lead_of_others M E i n) n in
     let k = c.loop-k.k in
-    let row = c.lead-gaps-row.result in
+    let row = c.lead_gaps-row.result in
     let values = c.loop-k.values in
     let v = c.add.result in
     let full : length row ≡ 1920 = search rules in
@@ -24,8 +24,8 @@ loop-k-preserved g c =
     let is : v ≡ sum_from_leads f M N c.args.bound T E i (k + 1) =
     c.add.ensures
     ∙ ap₂ f.plus
-    (c.sub-gap.ensures ∙ ap₂ f.minus c.sum-in.ensures (c.sum-in-in-loop-k.ensures ∙ ap (λ b. T b (k + 1)) c.station-beside-beside.ensures))
-    (c.row-sum.ensures ∙ front_sum f row N leads (k + 1) (omega (arith, full, c.requires.narrow)) c.lead-gaps-row.ensures) in (
+    (c.sub-gap.ensures ∙ ap₂ f.minus c.sum_in.ensures (c.sum_in-in-loop-k.ensures ∙ ap (λ b. T b (k + 1)) c.station_beside-beside.ensures))
+    (c.row_sum.ensures ∙ front_sum f row N leads (k + 1) (omega (arith, full, c.requires.narrow)) c.lead_gaps-row.ensures) in (
       length-set values k v ∙ c.loop-k.invariant.0,
       below_more P k
           (λ j h. get_or-set_other values k j v 0 (let ne : j ≢ k = omega arith in ne) ∙ c.loop-k.invariant.1 j h)

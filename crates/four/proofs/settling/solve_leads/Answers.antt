@@ -20,11 +20,11 @@ unreachable-requires g c =
     let N = c.args.pages in
     let bound = c.args.bound in
     let J = c.min-sums.result in
-    let values = c.lead-sums-values.result in
+    let values = c.lead_sums-values.result in
     let s = sum_from_leads f c.args.stations N bound (sum_in c.args.tally.now N) (g.G.RowGaps.gaps c.args.gaps.now) c.args.aside in
     let full : length values ≡ 128 = search rules in
     let room : J ≤ length values = omega (arith, full, c.min-sums.ensures, c.requires.known) in
-    let is : (i : ℕ) → i < J → get_or values i 0 ≡ s (i + 1) = λ i h. c.lead-sums-values.ensures i (omega (arith, c.min-sums.ensures)) in
+    let is : (i : ℕ) → i < J → get_or values i 0 ≡ s (i + 1) = λ i h. c.lead_sums-values.ensures i (omega (arith, c.min-sums.ensures)) in
     let P : ℕ → Type 0 = Enough N bound in
     not_refused f N bound J values s room is l c.requires.some c.requires.narrow (subst P (sym c.min-sums.ensures) (enough N bound c.requires.known))
     (λ j. l.plus_code _ _) c.in-Err.field-0 c.in-Err.ensures.0
@@ -35,12 +35,12 @@ returns-in-Some g c =
     let N = c.args.pages in
     let bound = c.args.bound in
     let J = c.min-sums.result in
-    let values = c.lead-sums-values.result in
+    let values = c.lead_sums-values.result in
     let s = sum_from_leads f c.args.stations N bound (sum_in c.args.tally.now N) (g.G.RowGaps.gaps c.args.gaps.now) c.args.aside in
     let list = c.solve.new.list in
     let full : length values ≡ 128 = search rules in
     let room : J ≤ length values = omega (arith, full, c.min-sums.ensures, c.requires.known) in
-    let is : (i : ℕ) → i < J → get_or values i 0 ≡ s (i + 1) = λ i h. c.lead-sums-values.ensures i (omega (arith, c.min-sums.ensures)) in
+    let is : (i : ℕ) → i < J → get_or values i 0 ≡ s (i + 1) = λ i h. c.lead_sums-values.ensures i (omega (arith, c.min-sums.ensures)) in
     let P : ℕ → Type 0 = λ k. Solves f N bound k s (code_at list) in
     let Q : Option ℕ → Type 0 = Answer f N bound (take J values) c.args.list.now list in
     subst P c.min-sums.ensures (list_solves f N bound J values s room is c.in-Some.field-0 list (subst Q c.in-Some.is c.in-Ok.ensures.1))
@@ -51,11 +51,11 @@ returns-in-None g c e x =
     let N = c.args.pages in
     let bound = c.args.bound in
     let J = c.min-sums.result in
-    let values = c.lead-sums-values.result in
+    let values = c.lead_sums-values.result in
     let s = sum_from_leads f c.args.stations N bound (sum_in c.args.tally.now N) (g.G.RowGaps.gaps c.args.gaps.now) c.args.aside in
     let full : length values ≡ 128 = search rules in
     let room : J ≤ length values = omega (arith, full, c.min-sums.ensures, c.requires.known) in
-    let is : (i : ℕ) → i < J → get_or values i 0 ≡ s (i + 1) = λ i h. c.lead-sums-values.ensures i (omega (arith, c.min-sums.ensures)) in
+    let is : (i : ℕ) → i < J → get_or values i 0 ≡ s (i + 1) = λ i h. c.lead_sums-values.ensures i (omega (arith, c.min-sums.ensures)) in
     let P : ℕ → Type 0 = λ k. Solves f N bound k s e in
     let Q : Option ℕ → Type 0 = Answer f N bound (take J values) c.args.list.now c.solve.new.list in
     unsolved f N bound J values s room is (subst Q c.in-None.is c.in-Ok.ensures.1).0 e (subst P (sym c.min-sums.ensures) x)

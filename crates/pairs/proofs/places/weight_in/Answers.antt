@@ -6,4 +6,4 @@ use Rattle.pairs.proofs.places.weight_in.Goals as goal
 pub returns-then-place-ge64 : goal.returns-then-place-ge64
 returns-then-place-ge64 c =
     let gaps = c.args.gaps.now in
-    sym (ap answered_weight (get_or_past gaps.pairs (pair_place c.args.s c.args.t) None (omega (arith, gaps.full, c.pair-place-place.ensures, c.if-place-ge64.true))))
+    sym (ap answered_weight (get_or_past gaps.pairs (pair_place c.args.s c.args.t) None (omega (arith, gaps.full, c.pair_place-place.ensures, c.if-place-ge64.true))))

@@ -5,7 +5,7 @@ use Rattle.pairs.proofs.solving.solve_pairs.Goals as goal
 
 pub returns : goal.returns
 returns g c =
-    let accepted = c.in-ok-accept.ensures in (
+    let accepted = c.in_ok-accept.ensures in (
       accepted,
       pairs_solved g.met.F.Field.lawful g.met.F.Field.spread c.args.pages c.args.sums (sum_in c.args.tally.now c.args.pages) _
           (omega (arith, accepted.1.0.1)) (λ k b. c.loop-place.invariant.1 k (omega arith)),

@@ -4,7 +4,7 @@ use Rattle.scheme.proofs.Counts.{agree_same, agree_apart}
 use Rattle.tally.specs.Rows.{signature_in}
 use Rattle.tally.proofs.Halves.{holders_more}
 use Rattle.tally.proofs.closing.holders.Goals as goal
-use Rattle.tally.proofs.closing.holders.Goals.{then-signature-in-signature, else-signature-in-signature}
+use Rattle.tally.proofs.closing.holders.Goals.{then-signature_in-signature, else-signature_in-signature}
 
 pub loop-before-preserved : goal.loop-before-preserved
 loop-before-preserved c =
@@ -13,11 +13,11 @@ loop-before-preserved c =
     let n = c.args.page in
     let v = c.args.signature in
     let more = holders_more R k n v in
-    elim c.if-signature-in-signature.branch [
-      | then-signature-in-signature w ↦
-          let one = agree_same (R (k + 1) n) v (sym c.signature-in.ensures ∙ w.if-signature-in-signature.true) in
+    elim c.if-signature_in-signature.branch [
+      | then-signature_in-signature w ↦
+          let one = agree_same (R (k + 1) n) v (sym c.signature_in.ensures ∙ w.if-signature_in-signature.true) in
           (w.count-is ∙ omega (arith, c.loop-before.invariant.0), omega (arith, w.count-is, c.loop-before.invariant.1))
-      | else-signature-in-signature w ↦
-          let none = agree_apart (R (k + 1) n) v (λ e. w.if-signature-in-signature.false (c.signature-in.ensures ∙ e)) in
+      | else-signature_in-signature w ↦
+          let none = agree_apart (R (k + 1) n) v (λ e. w.if-signature_in-signature.false (c.signature_in.ensures ∙ e)) in
           (w.count-is ∙ omega (arith, c.loop-before.invariant.0), omega (arith, w.count-is, c.loop-before.invariant.1))
     ]

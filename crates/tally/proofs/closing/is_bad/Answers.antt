@@ -7,4 +7,4 @@ use Rattle.tally.proofs.closing.is_bad.Goals as goal
 pub returns : goal.returns
 returns c =
     bad_told c.args.stations (signature_in c.args.tally.now c.args.pages) c.args.station c.args.page c.holders.result
-    (c.holders.ensures ∙ ap (holders c.args.stations (signature_in c.args.tally.now c.args.pages) c.args.page) c.signature-in-signature.ensures)
+    (c.holders.ensures ∙ ap (holders c.args.stations (signature_in c.args.tally.now c.args.pages) c.args.page) c.signature_in-signature.ensures)

@@ -7,13 +7,13 @@ use Rattle.tally.proofs.closing.is_decided.Goals as goal
 pub loop-before-preserved : goal.loop-before-preserved
 loop-before-preserved c =
     page_more c.loop-before.before (λ s. Bad c.args.stations (signature_in c.args.tally.now c.args.pages) s c.args.page)
-    c.loop-before.invariant c.if-not-is-bad.ensures
+    c.loop-before.invariant c.if-not-is_bad.ensures
 
-pub returns-then-not-is-bad : goal.returns-then-not-is-bad
-returns-then-not-is-bad c =
+pub returns-then-not-is_bad : goal.returns-then-not-is_bad
+returns-then-not-is_bad c =
     let R : Table = signature_in c.args.tally.now c.args.pages in
     let s = c.loop-before.before + 1 in
-    (R s c.args.page, not_bad c.args.stations R s c.args.page c.if-not-is-bad.ensures)
+    (R s c.args.page, not_bad c.args.stations R s c.args.page c.if-not-is_bad.ensures)
 
 pub returns : goal.returns
 returns c = none_decided c.args.stations (signature_in c.args.tally.now c.args.pages) c.args.page (λ s b. c.loop-before.invariant s (omega arith))

@@ -5,10 +5,10 @@ use Rattle.tally.specs.Listing.{bad_pages}
 use Rattle.tally.specs.Rows.{signature_in}
 use Rattle.tally.proofs.BadPages.{bad_more, good_more, pages_most}
 use Rattle.tally.proofs.listing.count_bad.Goals as goal
-use Rattle.tally.proofs.listing.count_bad.Goals.{then-is-bad, else-is-bad}
+use Rattle.tally.proofs.listing.count_bad.Goals.{then-is_bad, else-is_bad}
 
-pub overflow-add-count : goal.overflow-add-count
-overflow-add-count c =
+pub overflow_add-count : goal.overflow_add-count
+overflow_add-count c =
     omega (arith, c.loop-before.invariant, pages_most c.args.stations (signature_in c.args.tally.now c.args.pages) c.args.station c.loop-before.before)
 
 pub loop-before-preserved : goal.loop-before-preserved
@@ -17,11 +17,11 @@ loop-before-preserved c =
     let R : Table = signature_in c.args.tally.now c.args.pages in
     let s = c.args.station in
     let k = c.loop-before.before in
-    elim c.if-is-bad.branch [
-      | then-is-bad w ↦
+    elim c.if-is_bad.branch [
+      | then-is_bad w ↦
           w.count-is ∙ ap (λ n. n + 1) c.loop-before.invariant
-          ∙ sym (ap length (bad_more M R s k w.if-is-bad.ensures) ∙ length_push (bad_pages M R s k) (k + 1))
-      | else-is-bad w ↦ w.count-is ∙ c.loop-before.invariant ∙ sym (ap length (good_more M R s k w.if-is-bad.ensures))
+          ∙ sym (ap length (bad_more M R s k w.if-is_bad.ensures) ∙ length_push (bad_pages M R s k) (k + 1))
+      | else-is_bad w ↦ w.count-is ∙ c.loop-before.invariant ∙ sym (ap length (good_more M R s k w.if-is_bad.ensures))
     ]
 
 pub returns : goal.returns

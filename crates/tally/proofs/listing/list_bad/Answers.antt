@@ -13,7 +13,7 @@ returns-then-out-count c =
       record {
         listed = bad_pages M R c.args.station c.args.pages;
         lists = bad_lists M R c.args.station c.args.pages;
-        short = omega (arith, c.count-bad-count.ensures, c.if-out-count.true);
+        short = omega (arith, c.count_bad-count.ensures, c.if-out-count.true);
         same = refl;
       },
     )
@@ -26,7 +26,7 @@ returns c =
     record {
       listed = pages;
       lists = bad_lists M R c.args.station c.args.pages;
-      size = sym c.count-bad-count.ensures;
+      size = sym c.count_bad-count.ensures;
       room = c.if-out-count.false;
       written = cc;
     }

@@ -5,7 +5,7 @@ use Rattle.tally.specs.Listing.{bad_pages}
 use Rattle.tally.specs.Rows.{signature_in}
 use Rattle.tally.proofs.BadPages.{bad_more, good_more, pages_most, page_fits, write_more}
 use Rattle.tally.proofs.listing.write_bad.Goals as goal
-use Rattle.tally.proofs.listing.write_bad.Goals.{then-is-bad, else-is-bad}
+use Rattle.tally.proofs.listing.write_bad.Goals.{then-is_bad, else-is_bad}
 
 pub bounds-out-count : goal.bounds-out-count
 bounds-out-count c =
@@ -15,15 +15,15 @@ bounds-out-count c =
       c.loop-before.invariant.0,
       c.loop-before.auto.out,
       page_fits c.args.stations (signature_in c.args.tally.now c.args.pages) c.args.station c.loop-before.before c.args.pages
-          c.if-is-bad.ensures c.loop-before-test.true,
+          c.if-is_bad.ensures c.loop-before-test.true,
     )
 
-pub offset-bounds-out-count : goal.offset-bounds-out-count
-offset-bounds-out-count c =
+pub offset_bounds-out-count : goal.offset_bounds-out-count
+offset_bounds-out-count c =
     omega (arith, c.loop-before.invariant.0, pages_most c.args.stations (signature_in c.args.tally.now c.args.pages) c.args.station c.loop-before.before)
 
-pub overflow-add-count : goal.overflow-add-count
-overflow-add-count c =
+pub overflow_add-count : goal.overflow_add-count
+overflow_add-count c =
     omega (arith, c.loop-before.invariant.0, pages_most c.args.stations (signature_in c.args.tally.now c.args.pages) c.args.station c.loop-before.before)
 
 pub loop-before-preserved : goal.loop-before-preserved
@@ -35,17 +35,17 @@ loop-before-preserved c =
     let n = c.loop-before.count in
     let old = c.args.out.now in
     let inv = c.loop-before.invariant in
-    elim c.if-is-bad.branch [
-      | then-is-bad w ↦
-          let bad = w.if-is-bad.ensures in
+    elim c.if-is_bad.branch [
+      | then-is_bad w ↦
+          let bad = w.if-is_bad.ensures in
           let more = bad_more M R s k bad in
           let fits : n < length old = omega (arith, c.requires, inv.0, page_fits M R s k c.args.pages bad c.loop-before-test.true) in (
             w.count-is ∙ ap (λ n. n + 1) inv.0 ∙ sym (ap length more ∙ length_push (bad_pages M R s k) (k + 1)),
             w.out-is ∙ ap (λ xs. set xs n (k + 1)) inv.1 ∙ write_more (bad_pages M R s k) old n (k + 1) (sym inv.0) fits
                 ∙ sym (ap₂ (λ xs i. xs ++ drop i old) more w.count-is),
           )
-      | else-is-bad w ↦
-          let more = good_more M R s k w.if-is-bad.ensures in
+      | else-is_bad w ↦
+          let more = good_more M R s k w.if-is_bad.ensures in
           (w.count-is ∙ inv.0 ∙ sym (ap length more), w.out-is ∙ inv.1 ∙ sym (ap₂ (λ xs i. xs ++ drop i old) more w.count-is))
     ]
 

@@ -6,4 +6,4 @@ use Rattle.tally.proofs.places.signature_in.Goals as goal
 pub returns : goal.returns
 returns c =
     let short : length c.args.tally.now ≤ 2 ^ 64 - 1 = search rules in
-    c.word.ensures ∙ getD_capped c.args.tally.now (2 ^ 64 - 1) short _ (signature_place c.args.pages c.args.station c.args.page) c.signature-place.ensures
+    c.word.ensures ∙ getD_capped c.args.tally.now (2 ^ 64 - 1) short _ (signature_place c.args.pages c.args.station c.args.page) c.signature_place.ensures

@@ -7,5 +7,5 @@ loop-i-preserved g c = (
   below_more _ _
       (λ k h. let ne : k ≢ c.loop-i.i = omega arith in get_or-set_other c.loop-i.gaps c.loop-i.i k _ 0 ne ∙ c.loop-i.invariant.1 k h)
       (let within : c.loop-i.i < length c.loop-i.gaps = omega arith in
-      get_or-set_same c.loop-i.gaps c.loop-i.i _ 0 within ∙ c.sub.ensures ∙ ap₂ g.F.Field.ops.minus c.sum-in-sum.ensures c.sum-in.ensures),
+      get_or-set_same c.loop-i.gaps c.loop-i.i _ 0 within ∙ c.sub.ensures ∙ ap₂ g.F.Field.ops.minus c.sum_in-sum.ensures c.sum_in.ensures),
 )

@@ -16,9 +16,9 @@ loop-page-preserved g c =
     let w = c.loop-page.invariant in
     let fits : tally_size c.args.to N ≤ length c.loop-page.tally = omega (arith, w.size, c.requires.2) in
     one_more f N c.args.from c.args.to (code_at c.args.list.now) c.args.tally.now p (omega arith)
-    c.loop-page.tally c.put-signature.new.tally c.requires.0.0 c.requires.0.1.0 c.requires.0.1.1
+    c.loop-page.tally c.put_signature.new.tally c.requires.0.0 c.requires.0.1.0 c.requires.0.1.1
     (inside N c.args.to p (length c.loop-page.tally) c.requires.0.1.0 (omega arith) fits) w
-    c.signature-in-signature.result c.code-at-code.result c.sub.result c.signature-in-signature.ensures c.code-at-code.ensures c.sub.ensures c.put-signature.ensures
+    c.signature_in-signature.result c.code_at-code.result c.sub.result c.signature_in-signature.ensures c.code_at-code.ensures c.sub.ensures c.put_signature.ensures
 
 pub returns : goal.returns
 returns g c =

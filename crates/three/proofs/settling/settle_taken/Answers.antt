@@ -43,7 +43,7 @@ returns-in-Some g c =
     let d = code_at c.in-Some.anew.list in
     let T = sum_in before N in
     let is = c.third-other.ensures in
-    let solves = subst₂ (λ k J. Solves f N c.args.bound J (gap f T 1 k) d) is c.all-sums-count.ensures c.in-Some.ensures.solves in
+    let solves = subst₂ (λ k J. Solves f N c.args.bound J (gap f T 1 k) d) is c.all_sums-count.ensures c.in-Some.ensures.solves in
     let one = subst (λ (k : ℕ). RowWritten f N N 1 k d before c.apply.new.tally) is c.apply.ensures in (
       row_of_three f (signature_in before N 1) s t e d,
       (s, t, e, d, c.requires.3, solves, λ r n st p. refl),

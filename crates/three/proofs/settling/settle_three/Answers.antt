@@ -12,6 +12,6 @@ by_pair f N bound before after Filled x = x
 
 pub returns-in-Some : goal.returns-in-Some
 returns-in-Some g c = (
-  c.in-ok-accept.ensures,
-  by_pair g.F.Field.ops c.args.pages c.args.bound c.args.tally.now c.settle-taken.new.tally c.settle-taken.result c.settle-taken.ensures,
+  c.in_ok-accept.ensures,
+  by_pair g.F.Field.ops c.args.pages c.args.bound c.args.tally.now c.settle_taken.new.tally c.settle_taken.result c.settle_taken.ensures,
 )

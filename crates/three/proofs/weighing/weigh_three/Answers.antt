@@ -6,4 +6,4 @@ pub returns-in-Over : goal.returns-in-Over
 returns-in-Over g c =
     let told : all_sums c.args.pages c.args.bound ≤ first_sums 3 c.args.bound = omega arith in
     let over = c.in-Over.ensures in
-    (c.in-ok-accept.ensures, (inr (told, over.0), over.1))
+    (c.in_ok-accept.ensures, (inr (told, over.0), over.1))
