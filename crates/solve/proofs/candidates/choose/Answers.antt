@@ -12,13 +12,13 @@ returns-then-values-pages g c =
 
 pub roots-requires-2 : goal.roots-requires-2
 roots-requires-2 g c = λ m h x r z.
-    let w = few_located g.met.F.Field.lawful g.met.F.Field.spread c.args.pages c.requires.0 c.args.weight c.locate-locator.result.terms c.args.values.now
+    let w = few_located g.met.F.Field.lawful g.met.F.Field.spread c.args.pages c.requires.few_pages c.args.weight c.locate-locator.result.terms c.args.values.now
     (at c.locate-locator.result.coefficients) c.locate-locator.ensures m h x r z in
-    let two : c.args.weight + c.args.weight ≤ length c.args.values.now = elim c.requires.2 [ inl all ↦ absurd (c.if-values-pages.false all) | inr two ↦ two ] in
+    let two : c.args.weight + c.args.weight ≤ length c.args.values.now = elim c.requires.enough [ inl all ↦ absurd (c.if-values-pages.false all) | inr two ↦ two ] in
     omega arith
 
 pub returns : goal.returns
 returns g c =
-    let two : c.args.weight + c.args.weight ≤ length c.args.values.now = elim c.requires.2 [ inl all ↦ absurd (c.if-values-pages.false all) | inr two ↦ two ] in
-    covers_located g.met.F.Field.lawful g.met.F.Field.spread c.args.pages c.requires.0 c.args.weight c.locate-locator.result.terms c.args.values.now
+    let two : c.args.weight + c.args.weight ≤ length c.args.values.now = elim c.requires.enough [ inl all ↦ absurd (c.if-values-pages.false all) | inr two ↦ two ] in
+    covers_located g.met.F.Field.lawful g.met.F.Field.spread c.args.pages c.requires.few_pages c.args.weight c.locate-locator.result.terms c.args.values.now
     (at c.locate-locator.result.coefficients) c.locate-locator.ensures two _ _ _ c.roots-2.ensures

@@ -16,8 +16,8 @@ loop-k-preserved g c =
     let ek : k ≡ suc (k - 1) = omega arith in
     let place : p (k - 1 + 1) ≡ p (suc (k - 1)) = ap p (let e : k - 1 + 1 ≡ suc (k - 1) = omega arith in e) in
     let turn = value_more f p (m - k) (suc k) x c.loop-k.quotient (m - (k - 1)) (suc (k - 1)) em (ap suc ek) c.loop-k.invariant.0 in
-    let here : c.mul-add-quotient.result ≡ value f (m - (k - 1)) p (suc (k - 1)) x = cc in
-    let is : q (k - 1) ≡ c.mul-add-quotient.result = sym here in
-    let turn_values = window_more f q s (m - k) k k c.loop-k.against-values (m - (k - 1)) (k - 1) (k - 1) em ek ek c.loop-k.invariant.1 in
+    let here : c.mul_add-quotient.result ≡ value f (m - (k - 1)) p (suc (k - 1)) x = cc in
+    let is : q (k - 1) ≡ c.mul_add-quotient.result = sym here in
+    let turn_values = window_more f q s (m - k) k k c.loop-k.against_values (m - (k - 1)) (k - 1) (k - 1) em ek ek c.loop-k.invariant.1 in
     let turn_x = value_more f q (m - k) k x c.loop-k.at_x (m - (k - 1)) (k - 1) em ek c.loop-k.invariant.2 in
     (here, cc, cc)

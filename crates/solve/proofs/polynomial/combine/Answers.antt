@@ -10,5 +10,5 @@ pub loop-i-preserved : goal.loop-i-preserved
 loop-i-preserved g c =
     let f = g.F.Field.ops in
     let h : ℕ → ℕ = λ i. f.minus (shifted c.args.a (at c.args.p.now) i) (f.times c.args.c (shifted c.args.b (at c.args.w.now) i)) in
-    let here : c.minus-multiple.result ≡ h c.loop-i.i = cc in
-    (simp length-set c.loop-i.invariant.0, filled h c.loop-i.difference c.loop-i.i c.minus-multiple.result here (omega arith) c.loop-i.invariant.1)
+    let here : c.minus_multiple.result ≡ h c.loop-i.i = cc in
+    (simp length-set c.loop-i.invariant.0, filled h c.loop-i.difference c.loop-i.i c.minus_multiple.result here (omega arith) c.loop-i.invariant.1)

@@ -10,7 +10,7 @@ returns-in-Some g c =
     let f = g.F.Field.ops in
     let count = c.args.count in
     let gaps = c.sum_gaps-values.result in
-    let room : count ≤ length gaps = omega (arith, c.sum_gaps-values.ensures.0, c.requires.1.1) in
+    let room : count ≤ length gaps = omega (arith, c.sum_gaps-values.ensures.0, c.requires.enough.1) in
     let is = c.sum_gaps-values.ensures.1 in
     let s = gap f (sum_in c.args.tally.now c.args.pages) c.args.first c.args.second in
     let list = c.solve.new.list in
@@ -27,7 +27,7 @@ returns-in-None g c =
     let f = g.F.Field.ops in
     let count = c.args.count in
     let gaps = c.sum_gaps-values.result in
-    let room : count ≤ length gaps = omega (arith, c.sum_gaps-values.ensures.0, c.requires.1.1) in
+    let room : count ≤ length gaps = omega (arith, c.sum_gaps-values.ensures.0, c.requires.enough.1) in
     let s = gap f (sum_in c.args.tally.now c.args.pages) c.args.first c.args.second in
     let h = subst (Answer f c.args.pages c.args.weight (take count gaps) _ c.solve.new.list) c.in-None.is c.in-Ok.ensures.1 in
     unsolved f c.args.pages c.args.weight count gaps s room c.sum_gaps-values.ensures.1 h.0
@@ -37,8 +37,8 @@ returns-in_default g c =
     let f = g.F.Field.ops in
     let count = c.args.count in
     let gaps = c.sum_gaps-values.result in
-    let room : count ≤ length gaps = omega (arith, c.sum_gaps-values.ensures.0, c.requires.1.1) in
+    let room : count ≤ length gaps = omega (arith, c.sum_gaps-values.ensures.0, c.requires.enough.1) in
     let s = gap f (sum_in c.args.tally.now c.args.pages) c.args.first c.args.second in
     let l = g.met.F.Field.lawful in
-    absurd (not_refused f c.args.pages c.args.weight count gaps s room c.sum_gaps-values.ensures.1 l c.requires.0.0 c.requires.0.1 c.requires.1
+    absurd (not_refused f c.args.pages c.args.weight count gaps s room c.sum_gaps-values.ensures.1 l c.requires.page_range.0 c.requires.page_range.1 c.requires.enough
     (λ j. l.minus_code _ _) _ c.in_default.ensures.0)

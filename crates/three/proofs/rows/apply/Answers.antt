@@ -14,10 +14,10 @@ loop-page-preserved g c =
     let N = c.args.pages in
     let p = c.loop-page.page in
     let w = c.loop-page.invariant in
-    let fits : tally_size c.args.to N ≤ length c.loop-page.tally = omega (arith, w.size, c.requires.2) in
+    let fits : tally_size c.args.to N ≤ length c.loop-page.tally = omega (arith, w.size, c.requires.rows_reach) in
     one_more f N c.args.from c.args.to (code_at c.args.list.now) c.args.tally.now p (omega arith)
-    c.loop-page.tally c.put_signature.new.tally c.requires.0.0 c.requires.0.1.0 c.requires.0.1.1
-    (inside N c.args.to p (length c.loop-page.tally) c.requires.0.1.0 (omega arith) fits) w
+    c.loop-page.tally c.put_signature.new.tally c.requires.two_stations.0 c.requires.two_stations.1 c.requires.two_stations.2
+    (inside N c.args.to p (length c.loop-page.tally) c.requires.two_stations.1 (omega arith) fits) w
     c.signature_in-signature.result c.code_at-code.result c.sub.result c.signature_in-signature.ensures c.code_at-code.ensures c.sub.ensures c.put_signature.ensures
 
 pub returns : goal.returns

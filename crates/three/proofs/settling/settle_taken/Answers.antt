@@ -16,21 +16,21 @@ apply-requires g c =
     let s = c.args.taken.now.first in
     let t = c.args.taken.now.second in
     let is : c.third-other.result ≡ third s t = c.third-other.ensures in
-    let p : Pair 3 1 (third s t) = (third_is s t c.requires.3.pair).0 in (
-      (omega arith, (omega arith, λ e. omega arith)),
-      omega (arith, c.requires.0.1),
-      fewer_rows c.args.pages c.third-other.result (length c.args.tally.now) (omega arith) c.requires.2,
-    )
+    let p : Pair 3 1 (third s t) = (third_is s t c.requires.taken.pair).0 in record {
+      two_stations = (omega arith, omega arith, λ e. omega arith);
+      pages_fit = omega (arith, c.requires.page_range.1);
+      rows_reach = fewer_rows c.args.pages c.third-other.result (length c.args.tally.now) (omega arith) c.requires.rows_reach;
+    }
 
 pub apply-requires-in-Some : goal.apply-requires-in-Some
 apply-requires-in-Some g c =
-    let p = c.requires.3.pair in
+    let p = c.requires.taken.pair in
     let size = c.apply.ensures.size in
-    let long : tally_size 3 c.args.pages ≤ length c.apply.new.tally = omega (arith, size, c.requires.2) in (
-      (p.0, (omega arith, λ e. omega arith)),
-      omega (arith, c.requires.0.1),
-      fewer_rows c.args.pages c.args.taken.now.second (length c.apply.new.tally) p.2 long,
-    )
+    let long : tally_size 3 c.args.pages ≤ length c.apply.new.tally = omega (arith, size, c.requires.rows_reach) in record {
+      two_stations = (p.0, omega arith, λ e. omega arith);
+      pages_fit = omega (arith, c.requires.page_range.1);
+      rows_reach = fewer_rows c.args.pages c.args.taken.now.second (length c.apply.new.tally) p.2 long;
+    }
 
 pub returns-in-Some : goal.returns-in-Some
 returns-in-Some g c =
@@ -46,6 +46,6 @@ returns-in-Some g c =
     let solves = subst₂ (λ k J. Solves f N c.args.bound J (gap f T 1 k) d) is c.all_sums-count.ensures c.in-Some.ensures.solves in
     let one = subst (λ (k : ℕ). RowWritten f N N 1 k d before c.apply.new.tally) is c.apply.ensures in (
       row_of_three f (signature_in before N 1) s t e d,
-      (s, t, e, d, c.requires.3, solves, λ r n st p. refl),
-      rows_filled f N s t c.requires.3.pair e d before c.apply.new.tally c.apply-in-Some.new.tally one c.apply-in-Some.ensures,
+      (s, t, e, d, c.requires.taken, solves, λ r n st p. refl),
+      rows_filled f N s t c.requires.taken.pair e d before c.apply.new.tally c.apply-in-Some.new.tally one c.apply-in-Some.ensures,
     )

@@ -8,4 +8,4 @@ returns g c =
     let l = g.met.F.Field.lawful in
     let words = c.args.self.now.words.now in
     let P : ℕ → Type 0 = λ x. x < g.F.Field.ops.size in
-    (((omega arith, omega arith), tt), c.row-sum.ensures ∙ card_sum l words c.args.j, subst P (sym c.row-sum.ensures) (total_code l (length words) _))
+    (((omega arith, omega arith), tt), c.row_sum.ensures ∙ card_sum l words c.args.j, subst P (sym c.row_sum.ensures) (total_code l (length words) _))

@@ -22,4 +22,4 @@ returns g c =
     let value = shelf_entry l shelf.page_length shelf.pages shelf.job.now c.args.page (omega arith) (omega arith) in
     let P : ℕ → Type 0 = λ x. x < g.F.Field.ops.size in
     let signed = signed_bytes shelf.page_length (page_bytes shelf.page_length shelf.job.now c.args.page) in
-    (((omega arith, omega arith), tt), c.page-signature.ensures ∙ sym value, subst P (sym c.page-signature.ensures) (signature_code l signed))
+    (((omega arith, omega arith), tt), c.page_signature.ensures ∙ sym value, subst P (sym c.page_signature.ensures) (signature_code l signed))

@@ -8,4 +8,4 @@ returns g c =
     let l = g.met.F.Field.lawful in
     let shelf = c.args.self.now in
     let P : ℕ → Type 0 = λ x. x < g.F.Field.ops.size in
-    (((omega arith, omega arith), tt), c.job-sum.ensures ∙ shelf_sum l shelf.page_length shelf.pages shelf.job.now c.args.j, subst P (sym c.job-sum.ensures) (total_code l shelf.pages _))
+    (((omega arith, omega arith), tt), c.job_sum.ensures ∙ shelf_sum l shelf.page_length shelf.pages shelf.job.now c.args.j, subst P (sym c.job_sum.ensures) (total_code l shelf.pages _))
