@@ -138,8 +138,8 @@ mod tests {
                         && case.request.len() == 4
                         && count <= reply.len()
                 );
-                assert!(rt; &reply[0..4] == case.request);
-                assert!(rt; &reply[4..count] == case.values);
+                assert!(rt; reply[0..4] == case.request[..]);
+                assert!(rt; reply[4..count] == case.values[..]);
                 Ok(())
             }
             Err(refusal) => {
