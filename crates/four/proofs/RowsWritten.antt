@@ -1,9 +1,9 @@
 -- Rows of a tally that are written place by place and row by row.
-use Rattle.std.proofs.Common.{◌≡◌, ℕ, suc, ◌+◌, ◌-◌, ◌*◌, ◌<◌, ◌≤◌, cond, eqb, ◌≢◌, List, length, get_or, set, sym, refl, ap, ◌∙◌, subst, ⊎_elim, mul-le-mul_right, add-mul, one-mul, arith, eq-eqb, ne_eqb}
+use Rattle.std.proofs.Common.{◌≡◌, ℕ, suc, ◌+◌, ◌-◌, ◌*◌, ◌<◌, ◌≤◌, cond, eqb, ◌≢◌, List, length, get_or, set, sym, ap, ◌∙◌, ⊎_elim, mul-le-mul_right, add-mul, one-mul, arith, eq-eqb, ne_eqb}
 use Rattle.std.proofs.lemmas.List.{length-set, get_or-set_same, get_or-set_other}
 use Rattle.std.proofs.lemmas.Bool.{cases_lt}
 use Rattle.algebra.specs.Vectors.{Page}
-use Rattle.scheme.specs.Farm.{Table, Station}
+use Rattle.scheme.specs.Farm.{Table}
 use Rattle.tally.specs.Rows.{row_start, signature_place, signature_in, tally_size, Filled}
 use Rattle.four.specs.Filling.{RowPut, RowsPut}
 

@@ -1,10 +1,10 @@
 -- From the shape of the suspect pairs to the differences that are relied on.
-use Rattle.std.proofs.Common.{◌≡◌, ℕ, ◌≤◌, ◌↔◌, sym, refl, subst}
+use Rattle.std.proofs.Common.{◌≡◌, ℕ, ◌≤◌, refl, subst}
 use Rattle.field.specs.Field.{Ops}
 use Rattle.scheme.specs.Farm.{Table}
 use Rattle.scheme.specs.Pairs as shape
 use Rattle.scheme.specs.Pairs.{Pair}
-use Rattle.scheme.specs.Differences.{Gaps, Suspect, Differences}
+use Rattle.scheme.specs.Differences.{Suspect}
 use Rattle.scheme.specs.Four.{Known, none_suspect, three_suspect, one_suspect}
 use Rattle.pairs.specs.declared.doubt.Doubt.{Doubt}
 use Rattle.pairs.specs.declared.doubt.Doubt.TheVariants.{TwoApart, Nobody, Triangle, Station}

@@ -1,12 +1,12 @@
 -- What is written is whole, and is read back.
-use Rattle.std.proofs.Common.{◌≡◌, ℕ, zero, suc, ◌+◌, ◌-◌, ◌*◌, ◌/◌, ◌%◌, ◌^◌, ◌<◌, ◌≤◌, ◌⊎◌, List, [], ◌∷◌, ◌++◌, map, length, get_or, sym, refl, ap, ◌∙◌, subst, inl, inr, ⊎_elim, le_trans, arith}
+use Rattle.std.proofs.Common.{◌≡◌, ℕ, zero, suc, ◌+◌, ◌-◌, ◌^◌, ◌<◌, ◌≤◌, ◌⊎◌, List, [], ◌∷◌, ◌++◌, map, length, get_or, sym, refl, ap, ◌∙◌, subst, inl, inr, ⊎_elim, arith}
 use Rattle.std.proofs.lemmas.List.{get_or-append_right, get_or-map, length-map, length-append}
 use Rattle.std.proofs.lemmas.Bool.{cases_lt}
 use Rattle.field.specs.Field.{Ops, Laws}
 use Rattle.field.specs.Sums.{entry}
 use Rattle.link.specs.Words.{word, kind_of, value_of}
 use Rattle.link.specs.Requests.{request_words, values_due, asked_kind, Same}
-use Rattle.link.specs.Reading.{WellFormed, GarbledAt, Whole, Reply, reply_words, RequestsReadBack, RepliesReadBack}
+use Rattle.link.specs.Reading.{WellFormed, Whole, reply_words, RequestsReadBack, RepliesReadBack}
 use Rattle.link.specs.declared.asked.Asked.{Asked}
 use Rattle.link.specs.declared.asked.Asked.TheVariants.{Sums, Signatures}
 use Rattle.link.specs.declared.request.Request.{Request}

@@ -1,5 +1,5 @@
 -- Words by kind and value, and a whole request as the words of one.
-use Rattle.std.proofs.Common.{◌≡◌, ℕ, ◌+◌, ◌*◌, ◌/◌, ◌%◌, ◌^◌, ◌<◌, ◌≤◌, ◌⊎◌, List, [], ◌∷◌, ◌++◌, length, get_or, drop, sym, refl, ap, ◌∙◌, inl, inr, div-add-mod', arith}
+use Rattle.std.proofs.Common.{◌≡◌, ℕ, ◌+◌, ◌*◌, ◌^◌, ◌≤◌, List, [], ◌∷◌, ◌++◌, get_or, drop, sym, ap, ◌∙◌, div-add-mod', arith}
 use Rattle.std.proofs.lemmas.List.{drop_all}
 use Rattle.field.specs.Sums.{entry}
 use Rattle.link.specs.Words.{word, kind_of, value_of}

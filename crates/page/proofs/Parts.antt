@@ -1,9 +1,9 @@
 -- A page as a part of the job, and what filling it with zero bytes comes to.
-use Rattle.std.proofs.Common.{◌≡◌, ℕ, zero, suc, ◌+◌, ◌-◌, ◌*◌, ◌%◌, ◌<◌, ◌≤◌, min, List, [], ◌∷◌, ◌++◌, length, take, drop, replicate, fold, sym, refl, ap, ◌∙◌, ⊎_elim, arith}
+use Rattle.std.proofs.Common.{◌≡◌, ℕ, zero, suc, ◌+◌, ◌-◌, ◌<◌, ◌≤◌, min, List, [], ◌∷◌, ◌++◌, length, take, drop, replicate, fold, sym, refl, ap, ◌∙◌, ⊎_elim, arith}
 use Rattle.std.proofs.lemmas.List.{length-drop, drop_all, take_all}
 use Rattle.std.proofs.lemmas.Bool.{cases_lt}
 use Rattle.field.specs.Field.{Ops, Laws, power}
-use Rattle.field.proofs.Laws.{code_mod, one_times}
+use Rattle.field.proofs.Laws.{code_mod}
 use Rattle.page.specs.Pages.{absorb, signature, signed_bytes}
 
 module _ (job : List ℕ) (L a s e : ℕ) (start : s ≡ min a (length job)) (end : e ≡ min (s + L) (length job)) where

@@ -1,5 +1,5 @@
 -- The shape that is found of the suspects by what is held is the shape of the suspects by the sums.
-use Rattle.std.proofs.Common.{◌≡◌, ℕ, ◌↔◌, subst}
+use Rattle.std.proofs.Common.{ℕ, ◌↔◌, subst}
 use Rattle.field.specs.Field.{Ops}
 use Rattle.scheme.specs.Farm.{Table}
 use Rattle.scheme.specs.Pairs.{Pair, InAll}

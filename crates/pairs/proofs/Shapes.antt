@@ -1,8 +1,8 @@
 -- The shape of a family of pairs without two disjoint ones, from its first pair and from pairs without one of that pair's stations.
-use Rattle.std.proofs.Common.{◌≡◌, ℕ, ◌+◌, ◌-◌, ◌*◌, ◌<◌, ◌≤◌, ◌≢◌, ◌⊎◌, Some, sym, ◌∙◌, subst, subst₂, inl, inr, arith}
+use Rattle.std.proofs.Common.{◌≡◌, ℕ, ◌<◌, ◌≤◌, Some, sym, ◌∙◌, subst, subst₂, inl, inr, arith}
 use native.Mathlib.Decide.{ℕ_discrete, dec_lt}
 use Rattle.scheme.specs.Farm.{Lowest}
-use Rattle.scheme.specs.Pairs.{Pair, Disjoint, Empty, TwoApart, Triangle, InAll, among}
+use Rattle.scheme.specs.Pairs.{Pair, Empty, TwoApart, Triangle, InAll}
 use Rattle.scheme.proofs.Pairs.{shape, triangle_pairs, among_true}
 use Rattle.pairs.specs.Held.{pair_place}
 use Rattle.pairs.specs.Searching.{Apart, FirstApart}

@@ -1,10 +1,10 @@
 -- Where the pairs stand, and what follows for any two stations from what is answered at each place.
-use Rattle.std.proofs.Common.{◌≡◌, ℕ, ◌+◌, ◌-◌, ◌*◌, ◌/◌, ◌%◌, ◌<◌, ◌≤◌, Bool, true, false, cond, ltb, ◌⊎◌, ◌↔◌, get_or, Some, None, Option, sym, refl, ap, ◌∙◌, subst, subst₂, inl, inr, arith, le-ltb, lt-ltb}
+use Rattle.std.proofs.Common.{◌≡◌, ℕ, ◌+◌, ◌-◌, ◌*◌, ◌/◌, ◌%◌, ◌<◌, ◌≤◌, true, false, cond, ltb, ◌⊎◌, ◌↔◌, Some, None, Option, sym, refl, ap, ◌∙◌, subst, subst₂, inl, inr, arith, le-ltb, lt-ltb}
 use native.Mathlib.Decide.{ℕ_discrete}
 use borrow.Author.Tests.{both_ways}
 use Rattle.field.specs.Field.{Ops, Laws, Spread}
-use Rattle.algebra.specs.Vectors.{Page, weight}
-use Rattle.scheme.specs.Farm.{Table, Station}
+use Rattle.algebra.specs.Vectors.{weight}
+use Rattle.scheme.specs.Farm.{Table}
 use Rattle.scheme.specs.Pairs.{Pair, Disjoint}
 use Rattle.scheme.specs.Differences.{Solution, Unsolved, Suspect}
 use Rattle.scheme.specs.Theorem.{Answers}

@@ -1,8 +1,8 @@
 -- Suspect pairs: from what is found at each place, and from the weight that is held.
-use Rattle.std.proofs.Common.{◌≡◌, ℕ, ◌<◌, ◌≤◌, Bool, true, false, ◌⊎◌, Some, None, Option, sym, refl, ap, subst, inl, inr, arith}
+use Rattle.std.proofs.Common.{◌≡◌, ℕ, ◌<◌, Bool, true, false, Some, None, Option, sym, refl, subst, inl, inr, arith}
 use native.Mathlib.Decide.{dec_lt}
 use borrow.Author.Tests.{both_ways}
-use Rattle.scheme.specs.Pairs.{Pair, Disjoint}
+use Rattle.scheme.specs.Pairs.{Disjoint}
 use Rattle.scheme.proofs.Search.{dec_and, dec_not, sure, find_pair, decide_disjoint}
 use Rattle.pairs.specs.declared.pair_gap.PairGap.{PairGap}
 use Rattle.pairs.specs.declared.pair_gaps.PairGaps.{PairGaps}

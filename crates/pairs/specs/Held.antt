@@ -1,5 +1,5 @@
 -- What is held of the pairs of stations: where each pair stands, whether it has a solution, and the differences of any two stations.
-use Rattle.std.specs.Prelude.{◌≡◌, ℕ, ◌+◌, ◌-◌, ◌*◌, ◌<◌, ◌≤◌, Bool, true, false, cond, Some, None, Option, nat_lt, slice_index_or}
+use Rattle.std.specs.Prelude.{ℕ, ◌+◌, ◌-◌, ◌*◌, Bool, true, false, cond, Some, None, Option, nat_lt, slice_index_or}
 use Rattle.field.specs.Field.{Ops}
 use Rattle.solve.specs.Answer.{code_at}
 use Rattle.scheme.specs.Differences.{Gaps}

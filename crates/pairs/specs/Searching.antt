@@ -1,5 +1,5 @@
 -- Seeking a pair of M stations that is in Ω, in the order of the places.
-use Rattle.std.specs.Prelude.{◌≡◌, ℕ, ◌<◌, ◌≤◌, Some, None, Option}
+use Rattle.std.specs.Prelude.{ℕ, ◌<◌, Some, None, Option}
 use Rattle.scheme.specs.Pairs.{Pair, Disjoint}
 use Rattle.pairs.specs.Held.{pair_place}
 

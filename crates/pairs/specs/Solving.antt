@@ -1,5 +1,5 @@
 -- Solving the differences of all pairs of M stations: what is refused, and what the answers say of the sums.
-use Rattle.std.specs.Prelude.{◌≡◌, ℕ, ◌<◌, ◌≤◌, false, ◌↔◌, List, [], ◌∷◌, Some, None, Option}
+use Rattle.std.specs.Prelude.{◌≡◌, ℕ, ◌≤◌, false, ◌↔◌, List, [], ◌∷◌, Some, None, Option}
 use Rattle.field.specs.Field.{Ops, page_limit}
 use Rattle.refusal.specs.Rules.{Rule, Within, unless}
 use Rattle.algebra.specs.Vectors.{weight}

@@ -1,5 +1,5 @@
 -- Which pairs of M stations are suspect, by what is held of them.
-use Rattle.std.specs.Prelude.{◌≡◌, ℕ, ◌<◌, ◌≤◌, Bool, true, false, ◌⊎◌}
+use Rattle.std.specs.Prelude.{◌≡◌, ℕ, ◌<◌, Bool, true, false, ◌⊎◌}
 use Rattle.scheme.specs.Pairs.{Pair, Disjoint}
 use Rattle.pairs.specs.declared.pair_gaps.PairGaps.{PairGaps}
 use Rattle.pairs.specs.Held.{pair_place, unsolved_in, weight_in}

@@ -1,6 +1,6 @@
 -- 65,537 is prime, and each number that it does not divide has its inverse.
-use Rattle.std.specs.Prelude.{◌≡◌, refl, Bool, true, false, cond, ◌⊎◌, ℕ, zero, suc, ◌+◌, ◌-◌, ◌*◌, ◌/◌, ◌%◌, ◌<◌, ◌≤◌, T, eqb, ltb}
-use Rattle.std.proofs.Common.{sym, ap, subst, ◌∙◌, inl, inr, ⊎_elim, mul_comm, mul_assoc, mul-add, mul-one, mod-lt, mod-eq_of_lt, not-suc-le-zero, eq-zero-or-pos, eq-or-lt_of_le, div-le_self, le_refl, arith, lit<, ltb-true, ltb-false, le-ltb}
+use Rattle.std.specs.Prelude.{◌≡◌, refl, Bool, true, false, cond, ℕ, zero, suc, ◌+◌, ◌-◌, ◌*◌, ◌/◌, ◌%◌, ◌<◌, ◌≤◌, T, eqb, ltb}
+use Rattle.std.proofs.Common.{sym, ap, subst, ◌∙◌, ⊎_elim, mul_comm, mul_assoc, mul-add, mul-one, mod-lt, mod-eq_of_lt, not-suc-le-zero, eq-zero-or-pos, eq-or-lt_of_le, div-le_self, le_refl, arith, lit<, ltb-true, ltb-false, le-ltb}
 use Rattle.std.proofs.Math.Nat.{div-add-mod, mul-add-mod_self_left}
 use Rattle.field.proofs.Walk.{unless, unless_left, unless_right}
 use Rattle.prime.specs.Prime.{inverse_in}

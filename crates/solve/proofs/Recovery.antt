@@ -11,7 +11,7 @@ use Rattle.algebra.proofs.Polynomials.{eval, Monic, quotient_root, few_roots}
 use Rattle.algebra.proofs.Sums.{sum, entry_from_sums}
 use Rattle.algebra.proofs.Sparse as sparse
 use Rattle.algebra.proofs.Codes.{codes, el, el_times, el_inverse, el_zero, el_injective, el_injective_zero, point, points, el_power_sum}
-use Rattle.solve.specs.Polynomials.{at, value, window, quotient, interpolated, Locates, Product}
+use Rattle.solve.specs.Polynomials.{at, value, quotient, interpolated, Locates, Product}
 use Rattle.solve.specs.Candidates.{Rising, Supported}
 use Rattle.solve.proofs.Words.{E, list, list_length, list_monic, list_quotient, el_value, el_window, value_code, window_agree}
 

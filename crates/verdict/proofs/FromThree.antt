@@ -1,8 +1,7 @@
 -- What holds of three stations, as what holds of any number.
-use Rattle.std.proofs.Common.{◌≡◌, ℕ, ◌≤◌, ◌⊎◌, List, length, sym, subst, inl, inr, arith}
+use Rattle.std.proofs.Common.{◌≡◌, ℕ, ◌≤◌, List, length, sym, subst, inl, inr, arith}
 use Rattle.field.specs.Field.{Ops}
-use Rattle.refusal.specs.declared.Refusal.{Refusal}
-use Rattle.refusal.specs.Rules.{Accepted, Refused}
+use Rattle.refusal.specs.Rules.{Accepted}
 use Rattle.scheme.specs.Farm.{Table}
 use Rattle.tally.specs.Rows as tally
 use Rattle.three.specs.declared.settling.Settled.{Settled as SettledOf}

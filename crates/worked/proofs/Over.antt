@@ -4,7 +4,7 @@ use Rattle.std.proofs.lemmas.Bool.{cases_lt}
 use Rattle.field.specs.Field.{power}
 use Rattle.field.specs.Sums.{power_sum}
 use Rattle.field.proofs.Sums.{total_same}
-use Rattle.algebra.specs.Vectors.{Page, counted, weight, Solves}
+use Rattle.algebra.specs.Vectors.{counted, weight}
 use Rattle.prime.specs.Prime.{prime}
 use Rattle.scheme.specs.Farm.{Table}
 use Rattle.scheme.specs.Askings.{over}

@@ -1,4 +1,4 @@
-use Rattle.std.proofs.Common.{◌≡◌, ℕ, ◌+◌, sym, ap, ◌∙◌, subst, arith}
+use Rattle.std.proofs.Common.{◌≡◌, ℕ, ◌+◌, ap, ◌∙◌, subst, arith}
 use Rattle.tally.specs.Rows.{signature_in}
 use Rattle.four.specs.Filling.{RowPut}
 use Rattle.four.proofs.RowsWritten.{row_more, own_unwritten}

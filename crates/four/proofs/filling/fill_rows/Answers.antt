@@ -1,6 +1,6 @@
-use Rattle.std.proofs.Common.{◌≡◌, ℕ, ◌+◌, ◌-◌, ◌*◌, ◌≤◌, length, sym, refl, ap, ◌∙◌, subst, mul-le-mul_right, arith}
+use Rattle.std.proofs.Common.{◌≡◌, ℕ, ◌+◌, ◌-◌, ◌≤◌, refl, ap, subst, arith}
 use Rattle.scheme.specs.Farm.{Table}
-use Rattle.tally.specs.Rows.{signature_in, tally_size, Filled}
+use Rattle.tally.specs.Rows.{signature_in}
 use Rattle.four.specs.Filling.{RowPut, RowsPut}
 use Rattle.four.proofs.RowsWritten.{rows_more, own_stands, rows_filled}
 use Rattle.four.proofs.filling.fill_rows.Goals as goal

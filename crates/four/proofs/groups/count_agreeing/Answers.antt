@@ -1,4 +1,4 @@
-use Rattle.std.proofs.Common.{◌≡◌, ℕ, suc, ◌+◌, ap, add-one, arith}
+use Rattle.std.proofs.Common.{◌≡◌, ℕ, ◌+◌, ap, add-one, arith}
 use Rattle.scheme.specs.Farm.{count, agree}
 use Rattle.scheme.specs.Four.{except}
 use Rattle.four.proofs.groups.count_agreeing.Goals as goal

@@ -1,4 +1,4 @@
-use Rattle.std.proofs.Common.{ℕ, List, drop, sym, refl, subst, inl, inr}
+use Rattle.std.proofs.Common.{ℕ, List, sym, refl, subst, inl}
 use Rattle.std.proofs.lemmas.List.{take_rest}
 use Rattle.link.specs.Reading.{Reply}
 use Rattle.link.proofs.Replies.{whole_clear, none_foreign, reply}

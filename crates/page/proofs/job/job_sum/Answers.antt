@@ -1,5 +1,4 @@
-use Rattle.std.proofs.Common.{◌≡◌, suc, ap, ◌∙◌, mul-one, add-one}
-use Rattle.field.specs.Field.{power}
+use Rattle.std.proofs.Common.{◌≡◌, suc, ap, ◌∙◌, add-one}
 use Rattle.field.proofs.Sums.{sum_more, weight_more}
 use Rattle.page.specs.Pages.{page_signature}
 use Rattle.page.proofs.job.job_sum.Goals as goal

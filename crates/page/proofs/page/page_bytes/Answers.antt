@@ -1,4 +1,4 @@
-use Rattle.std.proofs.Common.{◌≡◌, ℕ, zero, suc, ◌+◌, ◌-◌, ◌*◌, ◌^◌, ◌<◌, ◌≤◌, min, length, take, drop, sym, ap, ◌∙◌, arith, rules}
+use Rattle.std.proofs.Common.{◌≡◌, suc, ◌+◌, ◌-◌, ◌*◌, ◌^◌, ◌<◌, min, length, ap, ◌∙◌, arith, rules}
 use Rattle.page.specs.Pages.{page_bytes}
 use Rattle.page.proofs.Parts.{part}
 use Rattle.page.proofs.page.page_bytes.Goals as goal

@@ -1,4 +1,3 @@
-use Rattle.std.proofs.Common.{◌≡◌, sym, ap, ◌∙◌}
 use Rattle.page.proofs.Parts.{filled}
 use Rattle.page.proofs.page.sign.Goals as goal
 

@@ -1,4 +1,4 @@
-use Rattle.std.proofs.Common.{◌≡◌, suc, ◌-◌, length, get_or, sym, ap, ◌∙◌, mul-one, arith}
+use Rattle.std.proofs.Common.{◌≡◌, suc, ◌-◌, length, get_or, ap, ◌∙◌, mul-one, arith}
 use Rattle.field.specs.Field.{power}
 use Rattle.field.specs.Sums.{entry, power_sum}
 use Rattle.field.proofs.Sums.{sum_more, weight_more}

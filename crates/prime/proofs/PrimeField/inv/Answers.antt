@@ -3,7 +3,6 @@ use Prim.Native.Nat.{◌%◌}
 use native.Mathlib.Nat.{mod-lt}
 use native.Mathlib.Omega.{arith}
 use lib.Dec.{lit<}
-use borrow.Author.Rules.{rules}
 use Rattle.prime.specs.Inverse.{inverse_first, inverse_turn, inverse_last}
 use Rattle.prime.proofs.PrimeField.inv.Goals as goal
 

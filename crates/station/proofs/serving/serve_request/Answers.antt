@@ -1,5 +1,4 @@
-use Rattle.std.proofs.Common.{◌≡◌, ◌+◌, ◌++◌, drop, sym, ap, ◌∙◌}
-use Rattle.link.specs.Requests.{values_due}
+use Rattle.std.proofs.Common.{◌+◌, ◌++◌, drop, sym, ap, ◌∙◌}
 use Rattle.link.specs.Reading.{reply_words}
 use Rattle.station.specs.Serving.{answers}
 use Rattle.station.proofs.Writing.{served_words}

@@ -1,4 +1,4 @@
-use Rattle.std.proofs.Common.{◌≡◌, ◌+◌, set, sym, ap, ◌∙◌, arith}
+use Rattle.std.proofs.Common.{◌≡◌, ◌+◌, set, ap, ◌∙◌, arith}
 use Rattle.link.specs.Words.{word}
 use Rattle.link.specs.Requests.{values_due}
 use Rattle.station.proofs.Writing.{written, written_more, written_all}

@@ -1,4 +1,4 @@
-use Rattle.std.proofs.Common.{◌≡◌, ◌+◌, ◌-◌, ◌*◌, ◌^◌, min, ap, ◌∙◌}
+use Rattle.std.proofs.Common.{◌+◌, ◌-◌, ◌*◌, ◌^◌, min, ap, ◌∙◌}
 use Rattle.tally.proofs.Capped.{capped_product}
 use Rattle.tally.proofs.places.row_start.Goals as goal
 

@@ -1,4 +1,4 @@
-use Rattle.std.proofs.Common.{◌≡◌, ℕ, get_or, sym, refl, ap, ◌∙◌, arith}
+use Rattle.std.proofs.Common.{◌≡◌, get_or, sym, ap, ◌∙◌, arith}
 use Rattle.link.specs.Words.{kind_of}
 use Rattle.link.specs.Requests.{asked_kind}
 use Rattle.link.proofs.Replies.{whole_clear}

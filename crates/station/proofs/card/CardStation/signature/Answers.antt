@@ -1,4 +1,4 @@
-use Rattle.std.proofs.Common.{◌≡◌, ℕ, ◌%◌, ◌<◌, sym, refl, ap, ◌∙◌, subst, inl, mod-lt, arith}
+use Rattle.std.proofs.Common.{ℕ, ◌%◌, ◌<◌, sym, refl, ap, ◌∙◌, subst, inl, mod-lt, arith}
 use Rattle.std.proofs.lemmas.List.{length-map}
 use Rattle.field.specs.Sums.{entry}
 use Rattle.station.proofs.Rows.{card_entry}

@@ -1,4 +1,4 @@
-use Rattle.std.proofs.Common.{◌≡◌, ℕ, ◌<◌, sym, refl, ◌∙◌, subst, inl, arith}
+use Rattle.std.proofs.Common.{ℕ, ◌<◌, sym, refl, ◌∙◌, subst, inl, arith}
 use Rattle.page.specs.Pages.{page_bytes, signed_bytes}
 use Rattle.page.proofs.Parts.{signature_code}
 use Rattle.station.proofs.Rows.{shelf_length, shelf_entry}

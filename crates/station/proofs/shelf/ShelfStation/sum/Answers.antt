@@ -1,4 +1,4 @@
-use Rattle.std.proofs.Common.{ℕ, ◌<◌, length, sym, ◌∙◌, subst, arith}
+use Rattle.std.proofs.Common.{ℕ, ◌<◌, sym, ◌∙◌, subst, arith}
 use Rattle.field.proofs.Laws.{total_code}
 use Rattle.station.proofs.Rows.{shelf_sum}
 use Rattle.station.proofs.shelf.ShelfStation.sum.Goals as goal
