@@ -6,4 +6,4 @@ use Rattle.tally.proofs.places.put_signature.Goals as goal
 pub returns : goal.returns
 returns c =
     let short : length c.args.tally.now ≤ 2 ^ 64 - 1 = search rules in
-    c.put.ensures ∙ set_capped c.args.tally.now (2 ^ 64 - 1) short _ (signature_place c.args.pages c.args.station c.args.page) c.args.signature c.signature_place.ensures
+    c.put.ensures ∙ set_capped c.args.tally.now (2 ^ 64 - 1) short _ (signature_place c.args.pages c.args.station c.args.page) c.args.signature (search rules)

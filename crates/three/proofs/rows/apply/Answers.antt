@@ -1,4 +1,4 @@
-use Rattle.std.proofs.Common.{◌-◌, ◌≤◌, length, arith}
+use Rattle.std.proofs.Common.{◌-◌, ◌≤◌, length, arith, rules}
 use Rattle.solve.specs.Answer.{code_at}
 use Rattle.tally.specs.Rows.{tally_size}
 use Rattle.three.proofs.Filling.{none_written, one_more, all_written}
@@ -18,7 +18,7 @@ loop-page-preserved g c =
     one_more f N c.args.from c.args.to (code_at c.args.list.now) c.args.tally.now p (omega arith)
     c.loop-page.tally c.put_signature.new.tally c.requires.two_stations.0 c.requires.two_stations.1 c.requires.two_stations.2
     (inside N c.args.to p (length c.loop-page.tally) c.requires.two_stations.1 (omega arith) fits) w
-    c.signature_in-signature.result c.code_at-code.result c.sub.result c.signature_in-signature.ensures c.code_at-code.ensures c.sub.ensures c.put_signature.ensures
+    c.signature_in-signature.result c.code_at-code.result _ c.signature_in-signature.ensures c.code_at-code.ensures (search rules) c.put_signature.ensures
 
 pub returns : goal.returns
 returns g c =
