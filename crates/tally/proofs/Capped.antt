@@ -12,8 +12,8 @@ capped_product (suc a) b c m e =
     (cases_lt m c)
 
 module _ (xs : List ℕ) (m : ℕ) (short : length xs ≤ m) where
-  pub getD_capped : (i p : ℕ) → i ≡ min p m → get_or xs i 0 ≡ get_or xs p 0
-  getD_capped i p e =
+  pub get_or_capped : (i p : ℕ) → i ≡ min p m → get_or xs i 0 ≡ get_or xs p 0
+  get_or_capped i p e =
       ⊎_elim
       (λ past. get_or_past xs i 0 (omega arith) ∙ sym (get_or_past xs p 0 (omega arith)))
       (λ within. ap (λ k. get_or xs k 0) (let q : i ≡ p = omega arith in q))
