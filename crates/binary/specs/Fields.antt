@@ -3,7 +3,7 @@ use Rattle.std.specs.Prelude.{◌≡◌, refl, List, [], ◌∷◌, ℕ}
 use Rattle.std.proofs.Common.{arith, lit≤}
 use Rattle.field.specs.Field.{Laws, Spread}
 use Rattle.field.proofs.Walk.{spread}
-use Rattle.binary.specs.Binary.{product, squared, small, wide}
+use Rattle.binary.specs.Binary.{Degree, product, squared, small, wide}
 use Rattle.binary.specs.Inverses.{Computed, laws}
 
 two_nonzero : ◌≡◌ {A = ℕ} 2 0 → ⊥
@@ -38,3 +38,9 @@ wide_laws = laws 16 69643 wide_back wide_computed 1920
 pub wide_spread : Spread wide
 unfolding product
 wide_spread = spread wide_laws two_nonzero 1919 refl tt
+
+pub small_degree : Degree 8 285
+small_degree = record { some = lit≤ tt; few = lit≤ tt; top = refl }
+
+pub wide_degree : Degree 16 69643
+wide_degree = record { some = lit≤ tt; few = lit≤ tt; top = refl }

@@ -21,6 +21,12 @@ abbrev pub power : Ops → ℕ → ℕ → ℕ
 power f a zero = 1
 power f a (suc n) = f.times (power f a n) a
 
+-- the numbers that a field names are those of its operations
+pub record Named (f : Ops) (size places alpha : ℕ) : Type 0 where
+  pub size_is : size ≡ f.size
+  pub places_are : places ≡ f.places
+  pub alpha_is : alpha ≡ f.alpha
+
 pub record Laws (f : Ops) : Type 0 where
   pub size_least : 256 ≤ f.size
   pub size_most : f.size ≤ 2 ^ 28

@@ -8,7 +8,7 @@ use crate::Field;
 pub fn is_code<F: Field>(word: u32) -> bool
     ensures { result ≡ ltb word F.Field.ops.size }
 {
-    word < F::order()
+    word < F::SIZE
 }
 
 // A theorem of every field: each call counts its words modulo the size.

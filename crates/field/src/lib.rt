@@ -2,7 +2,7 @@
 #![tactic(auto)]
 
 ghost use Rattle.std.specs.Prelude.{◌≡◌, ℕ};
-ghost use Rattle.field.specs.Field.{Ops, Laws, Spread, power};
+ghost use Rattle.field.specs.Field.{Ops, Named, Laws, Spread, power};
 
 mod code;
 mod limits;
@@ -15,21 +15,19 @@ pub trait Field {
     // How many elements the field has, from 256 to 2^28.
     const SIZE: u32;
 
+    ghost SIZE: { ℕ };
+
     // How many pages a job may have: so many powers of alpha are different.
     const PLACES: usize;
 
+    ghost PLACES: { ℕ };
+
+    // The code whose powers are the places of pages.
+    const ALPHA: u32;
+
+    ghost ALPHA: { ℕ };
+
     ghost ops: { Ops };
-
-    // SIZE, for generic code: a contract can name this call, and not the constant.
-    fn order() -> u32
-        ensures { result ≡ ops.size };
-
-    // PLACES, for generic code.
-    fn place_count() -> usize
-        ensures { result ≡ ops.places };
-
-    fn alpha() -> u32
-        ensures { result ≡ ops.alpha };
 
     fn add(a: u32, b: u32) -> u32
         ensures { result ≡ ops.plus a b };
@@ -55,7 +53,7 @@ pub trait Field {
     fn alpha_add(a: u32, c: u32) -> u32
         ensures { result ≡ ops.plus (ops.times a ops.alpha) c }
     {
-        Self::mul_add(a, Self::alpha(), c)
+        Self::mul_add(a, Self::ALPHA, c)
     }
 
     // a to the power n, by squaring.
@@ -78,8 +76,10 @@ pub trait Field {
     fn alpha_pow(n: usize) -> u32
         ensures { result ≡ power ops ops.alpha n }
     {
-        Self::pow(Self::alpha(), n)
+        Self::pow(Self::ALPHA, n)
     }
+
+    ghost named: { Named ops SIZE PLACES ALPHA };
 
     ghost lawful: { Laws ops };
 

@@ -11,5 +11,5 @@ const PAGE_LIMIT: usize = 1920;
 pub fn page_limit<F: Field>() -> usize
     ensures { result ≡ page_limit F.Field.ops }
 {
-    F::place_count().min(PAGE_LIMIT)
+    F::PLACES.min(PAGE_LIMIT)
 }

@@ -2,11 +2,9 @@
 #![tactic(auto)]
 
 mod count;
-mod job;
 mod page;
 mod sum;
 
-pub use count::count_pages;
-pub use job::job_sum;
+pub use count::{accept_pages, count_pages};
 pub use page::{page_bytes, page_signature, sign};
-pub use sum::row_sum;
+pub use sum::{job_sum, row_sum};

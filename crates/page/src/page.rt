@@ -20,11 +20,9 @@ pub fn page_bytes(job: &[u8], length: usize, page: usize) -> &[u8]
 fn absorb_all<F: Field>(start: u32, bytes: &[u8]) -> u32
     ensures { result ≡ fold (absorb F.Field.ops) start bytes.now }
 {
-    let mut signature = start;
-    for byte in bytes {
-        signature = F::alpha_add(signature, u32::from(*byte));
-    }
-    signature
+    bytes.iter().fold(start, |signature, byte| {
+        F::alpha_add(signature, u32::from(*byte))
+    })
 }
 
 // The signature of a page with these bytes of its own, filled with zero bytes at its end.

@@ -1,7 +1,7 @@
 // The field of the whole numbers modulo 65,537.
 #![tactic(auto)]
 
-ghost use Rattle.std.specs.Prelude.{◌≡◌};
+ghost use Rattle.std.specs.Prelude.{◌≡◌, refl};
 ghost use Rattle.prime.specs.Prime.{prime};
 ghost use Rattle.prime.specs.Laws.{prime_laws, prime_spread};
 
@@ -14,25 +14,23 @@ const MODULUS: u64 = 65537;
 impl Field for Prime {
     const SIZE: u32 = 65537;
 
+    ghost SIZE = { 65537 };
+
     const PLACES: usize = 1920;
 
+    ghost PLACES = { 1920 };
+
+    const ALPHA: u32 = 3;
+
+    ghost ALPHA = { 3 };
+
     ghost ops = { prime };
+
+    ghost named = { record { size_is = refl; places_are = refl; alpha_is = refl } };
 
     ghost lawful = { prime_laws };
 
     ghost spread = { prime_spread };
-
-    fn order() -> u32 {
-        Self::SIZE
-    }
-
-    fn place_count() -> usize {
-        Self::PLACES
-    }
-
-    fn alpha() -> u32 {
-        3
-    }
 
     fn add(a: u32, b: u32) -> u32 {
         ((a as u64 + b as u64) % MODULUS) as u32

@@ -16,5 +16,5 @@ loop-k-preserved g c =
 
 pub returns : goal.returns
 returns g c =
-    let done : c.loop-k._k - 1 ≡ g.row.WIDTH - 1 = omega arith in
-    c.loop-k.invariant.1 ∙ ap (λ n. chain g.row.WIDTH g.row.POLY n (times g.row.WIDTH g.row.POLY c.args.a c.args.a)) done
+    let done : c.loop-k._k - 1 ≡ g.M.Modulus.WIDTH - 1 = omega (arith, g.met.M.Modulus.degree.some) in
+    c.loop-k.invariant.1 ∙ ap (λ n. chain g.M.Modulus.WIDTH g.M.Modulus.POLY n (times g.M.Modulus.WIDTH g.M.Modulus.POLY c.args.a c.args.a)) done

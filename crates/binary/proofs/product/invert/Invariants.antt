@@ -6,5 +6,5 @@ use Rattle.binary.proofs.product.invert.Given as goal
 
 abbrev pub invariant-loop-k : goal.invariant-loop-k
 invariant-loop-k g l =
-    (l.square ≡ squared g.row.WIDTH g.row.POLY (l._k - 1) (times g.row.WIDTH g.row.POLY l.a l.a))
-    × (l.result ≡ chain g.row.WIDTH g.row.POLY (l._k - 1) (times g.row.WIDTH g.row.POLY l.a l.a))
+    (l.square ≡ squared g.M.Modulus.WIDTH g.M.Modulus.POLY (l._k - 1) (times g.M.Modulus.WIDTH g.M.Modulus.POLY l.a l.a))
+    × (l.result ≡ chain g.M.Modulus.WIDTH g.M.Modulus.POLY (l._k - 1) (times g.M.Modulus.WIDTH g.M.Modulus.POLY l.a l.a))

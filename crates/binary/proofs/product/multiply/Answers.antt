@@ -12,26 +12,26 @@ use Rattle.binary.proofs.product.multiply.Goals as goal
 
 pub overflow_mul-sum : goal.overflow_mul-sum
 overflow_mul-sum g c =
-    Fits-le (bit_le _ c.loop-k.x) (Fits-of_lt (omega (arith, c.loop-k.invariant.1, pow-lt c.requires.few)))
+    Fits-le (bit_le _ c.loop-k.x) (Fits-of_lt (omega (arith, c.loop-k.invariant.1, pow-lt g.met.M.Modulus.degree.few)))
 
 pub loop-k-preserved : goal.loop-k-preserved
 unfolding product
 loop-k-preserved g c =
-    let w = g.row.WIDTH in
+    let w = g.M.Modulus.WIDTH in
     let l = c.loop-k in
     let bit = l.y % 2 * l.x in
     let left = w - (l._k + 1) in
     let is : w - l._k ≡ suc left = omega arith in (
-      ap (λ x. bit_xor (bit_xor l.sum bit) (product w g.row.POLY left x (l.y / 2))) c.shift-x.ensures
-          ∙ xor_assoc l.sum bit (product w g.row.POLY left (shifted w g.row.POLY l.x) (l.y / 2))
-          ∙ ap (λ n. bit_xor l.sum (product w g.row.POLY n l.x l.y)) (sym is)
+      ap (λ x. bit_xor (bit_xor l.sum bit) (product w g.M.Modulus.POLY left x (l.y / 2))) c.shift-x.ensures
+          ∙ xor_assoc l.sum bit (product w g.M.Modulus.POLY left (shifted w g.M.Modulus.POLY l.x) (l.y / 2))
+          ∙ ap (λ n. bit_xor l.sum (product w g.M.Modulus.POLY n l.x l.y)) (sym is)
           ∙ l.invariant.0,
-      subst (λ (x : ℕ). x < 2 ^ w) (sym c.shift-x.ensures) (shifted_code w g.row.POLY c.requires.top l.x l.invariant.1),
+      subst (λ (x : ℕ). x < 2 ^ w) (sym c.shift-x.ensures) (shifted_code w g.M.Modulus.POLY g.met.M.Modulus.degree.top l.x l.invariant.1),
     )
 
 pub returns : goal.returns
 unfolding product
 returns g c =
     let l = c.loop-k in
-    let done : g.row.WIDTH - l._k ≡ 0 = omega arith in
-    sym (ap (λ n. bit_xor l.sum (product g.row.WIDTH g.row.POLY n l.x l.y)) done ∙ xor_zero_r l.sum) ∙ l.invariant.0
+    let done : g.M.Modulus.WIDTH - l._k ≡ 0 = omega arith in
+    sym (ap (λ n. bit_xor l.sum (product g.M.Modulus.WIDTH g.M.Modulus.POLY n l.x l.y)) done ∙ xor_zero_r l.sum) ∙ l.invariant.0

@@ -8,7 +8,7 @@ use Rattle.binary.proofs.product.shift_add.Goals as goal
 
 pub returns : goal.returns
 returns g c =
-    let w = g.row.WIDTH in
-    ap (λ x. bit_xor x c.code-2.result) (c.shift.ensures ∙ ap (shifted w g.row.POLY) c.code.ensures)
-    ∙ ap (bit_xor (shifted w g.row.POLY (c.args.a % 2 ^ w))) c.code-2.ensures
-    ∙ shifted_plus w g.row.POLY c.requires.top c.args.a c.args.c c.requires.some
+    let w = g.M.Modulus.WIDTH in
+    ap (λ x. bit_xor x c.code-2.result) (c.shift.ensures ∙ ap (shifted w g.M.Modulus.POLY) c.code.ensures)
+    ∙ ap (bit_xor (shifted w g.M.Modulus.POLY (c.args.a % 2 ^ w))) c.code-2.ensures
+    ∙ shifted_plus w g.M.Modulus.POLY g.met.M.Modulus.degree.top c.args.a c.args.c g.met.M.Modulus.degree.some

@@ -2,7 +2,7 @@
 use borrow.Author.Rules.{rules}
 use Rattle.binary.specs.Binary.{product}
 use Rattle.binary.proofs.Table.{table}
-use Rattle.binary.proofs.small.SmallField.alpha_pow.Goals as goal
+use Rattle.binary.proofs.small.SmallModulusModulus.tabled_power.Goals as goal
 
 pub returns : goal.returns
 unfolding product
