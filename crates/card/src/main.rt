@@ -29,11 +29,8 @@ fn read_task(rt: &HostRuntime) -> io::Result<Option<Task>> {
     let (Some(field), Some(length), None) = (words.next(), words.next(), words.next()) else {
         return Ok(None);
     };
-    match (
-        FieldName::named(field.as_str()),
-        page_length(length.as_str()),
-    ) {
-        (Some(field), Some(length)) => Ok(Some(Task { field, length })),
+    match (field.parse(), page_length(length.as_str())) {
+        (Ok(field), Some(length)) => Ok(Some(Task { field, length })),
         _ => Ok(None),
     }
 }

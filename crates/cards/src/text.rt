@@ -27,8 +27,7 @@ fn whole_card<F: Field>(
     ensures { IfOk result (λ out. out.items ≡ page_lines (page_signature F.Field.ops length job.now) pages ++ last_line pages) }
 {
     let mut out = page_bytes::<F>(heap, length, job, pages)?;
-    let last = line::for_count(heap, pages)?;
-    out.extend_from_slice(last.as_bytes())?;
+    out.extend_from_slice(line::for_count(heap, pages)?.as_bytes())?;
     Ok(out)
 }
 
@@ -41,10 +40,9 @@ fn page_bytes<F: Field>(
     ensures { IfOk result (λ out. out.items ≡ page_lines (page_signature F.Field.ops length job.now) pages) }
 {
     let mut out = Vec::new(heap);
-    for before in 0..pages {
-        let signature = page::page_signature::<F>(job, length, before + 1);
-        let text = line::for_page(heap, before + 1, signature)?;
-        out.extend_from_slice(text.as_bytes())?;
+    for page in 1..=pages {
+        let signature = page::page_signature::<F>(job, length, page);
+        out.extend_from_slice(line::for_page(heap, page, signature)?.as_bytes())?;
     }
     Ok(out)
 }
@@ -52,8 +50,5 @@ fn page_bytes<F: Field>(
 fn refusal_bytes(heap: Global, refusal: Refusal) -> Result<Vec<u8>, AllocError>
     ensures { IfOk result (λ out. out.items ≡ refusal_line refusal) }
 {
-    let text = line::for_refusal(heap, refusal)?;
-    let mut out = Vec::new(heap);
-    out.extend_from_slice(text.as_bytes())?;
-    Ok(out)
+    Ok(line::for_refusal(heap, refusal)?.into_bytes())
 }

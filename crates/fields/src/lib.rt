@@ -1,9 +1,9 @@
 // The three fields, by name and by number.
 #![tactic(auto)]
 
-ghost use Rattle.std.specs.Prelude.{◌≡◌, Some, None, ◌≢◌};
-ghost use Rattle.fields.specs.Names.{name_of, number_of};
-ghost use Rattle.fields.specs.declared.FieldName.{FieldName as Name};
+ghost use Rattle.fields.specs.Names.{NamedBy, NumberedBy};
+
+use std::str::FromStr;
 
 #[derive(Clone, Copy, PartialEq, Eq, Debug)]
 pub enum FieldName {
@@ -12,28 +12,38 @@ pub enum FieldName {
     Prime,
 }
 
-impl FieldName {
-    // The field that is called so: small, wide or prime.
-    pub fn named(text: &str) -> Option<FieldName>
-        ensures { elim result [ Some field ↦ text.now ≡ name_of field | None ↦ ((field : Name) → text.now ≢ name_of field) ] }
-    {
+// No field has this name or number.
+#[derive(Clone, Copy, PartialEq, Eq, Debug)]
+pub struct UnknownField;
+
+// The field that is called so: small, wide or prime.
+impl FromStr for FieldName {
+    type Err = UnknownField;
+
+    ghost from_str_gives = { NamedBy };
+
+    fn from_str(text: &str) -> Result<FieldName, UnknownField> {
         match text {
-            "small" => Some(FieldName::Small),
-            "wide" => Some(FieldName::Wide),
-            "prime" => Some(FieldName::Prime),
-            _ => None,
+            "small" => Ok(FieldName::Small),
+            "wide" => Ok(FieldName::Wide),
+            "prime" => Ok(FieldName::Prime),
+            _ => Err(UnknownField),
         }
     }
+}
 
-    // The field with this number: 1 small, 2 wide, 3 prime.
-    pub fn numbered(number: u32) -> Option<FieldName>
-        ensures { elim result [ Some field ↦ number ≡ number_of field | None ↦ ((field : Name) → number ≢ number_of field) ] }
-    {
+// The field with this number: 1 small, 2 wide, 3 prime.
+impl TryFrom<u32> for FieldName {
+    type Error = UnknownField;
+
+    ghost try_from_gives = { NumberedBy };
+
+    fn try_from(number: u32) -> Result<FieldName, UnknownField> {
         match number {
-            1 => Some(FieldName::Small),
-            2 => Some(FieldName::Wide),
-            3 => Some(FieldName::Prime),
-            _ => None,
+            1 => Ok(FieldName::Small),
+            2 => Ok(FieldName::Wide),
+            3 => Ok(FieldName::Prime),
+            _ => Err(UnknownField),
         }
     }
 }

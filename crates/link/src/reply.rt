@@ -15,7 +15,7 @@ pub fn read_reply<'a, F: Field>(request: &Request, words: &'a [u32]) -> Result<&
         (λ values. Accepted (reading_reply F.Field.ops request.now words.now) × Reply F.Field.ops request.now words.now values.now)
         (Refused (reading_reply F.Field.ops request.now words.now)) }
 {
-    if let Some(position) = first_garbled(F::order(), request.value_count(), words) {
+    if let Some(position) = first_garbled(F::SIZE, request.value_count(), words) {
         return Err(Refusal::Garbled(position));
     }
     let [check, station, first, last, values @ ..] = words else {

@@ -51,7 +51,7 @@ fn accept<F: Field>(pages: usize, values: &[u32], weight: usize) -> Result<(), R
         return Err(Refusal::Size(Limit::Sums));
     }
     for j in 0..values.len() {
-        if values[j] >= F::order() {
+        if values[j] >= F::SIZE {
             return Err(Refusal::Garbled(j + 1));
         }
     }

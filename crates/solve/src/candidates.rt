@@ -46,7 +46,7 @@ fn roots<F: Field>(locator: &Locator, pages: usize) -> Candidates
     let mut count = 0;
     let mut x = 1;
     for before in 0..pages {
-        x = F::mul(x, F::alpha());
+        x = F::mul(x, F::ALPHA);
         if evaluate::<F>(&locator.coefficients, locator.terms, x) == 0 {
             found[count] = before + 1;
             points[count] = x;

@@ -43,7 +43,7 @@ impl<'a, F: Field> Station<F> for Card<'a, F> {
         if page < 1 || page > self.words.len() {
             return Err(Refusal::Range);
         }
-        Ok(self.words[page - 1] % F::order())
+        Ok(self.words[page - 1] % F::SIZE)
     }
 
     fn sum(&self, j: usize) -> Result<u32, Refusal> {
