@@ -43,9 +43,7 @@ pub fn solve<F: Field>(
 fn accept<F: Field>(pages: usize, values: &[u32], weight: usize) -> Result<(), Refusal>
     ensures { MatchResult result (λ _. Accepted (solving F.Field.ops pages weight values.now)) (Refused (solving F.Field.ops pages weight values.now)) }
 {
-    if pages < 1 || pages > field::page_limit::<F>() {
-        return Err(Refusal::Size(Limit::Pages));
-    }
+    page::accept_pages::<F>(pages)?;
     let enough = values.len() == pages || weight <= values.len() / 2;
     if !enough || values.len() > SUM_LIMIT {
         return Err(Refusal::Size(Limit::Sums));

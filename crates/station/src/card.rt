@@ -5,7 +5,7 @@ ghost use Rattle.station.specs.Kinds.{making_card};
 
 use crate::trait_station::{SUM_LIMIT, Station};
 use field::Field;
-use refusal::{Limit, Refusal};
+use refusal::Refusal;
 use std::marker::PhantomData;
 
 // Each word counts modulo the field's size.
@@ -22,9 +22,7 @@ impl<'a, F: Field> Card<'a, F> {
             (λ card. Accepted (making_card F.Field.ops (length words.now)) × (card.words.now ≡ words.now))
             (Refused (making_card F.Field.ops (length words.now))) }
     {
-        if words.len() < 1 || words.len() > field::page_limit::<F>() {
-            return Err(Refusal::Size(Limit::Pages));
-        }
+        page::accept_pages::<F>(words.len())?;
         Ok(Card {
             words,
             field: PhantomData,

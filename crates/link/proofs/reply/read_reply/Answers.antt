@@ -6,7 +6,7 @@ use Rattle.link.proofs.reply.read_reply.Goals as goal
 
 pub returns-in-Some : goal.returns-in-Some
 returns-in-Some g c =
-    let found = simp (c.order.ensures, c.value_count.ensures) at c.in-Some.ensures in
+    let found = simp (c.SIZE.ensures, g.met.F.Field.named.size_is, c.value_count.ensures) at c.in-Some.ensures in
     inl (refl, found)
 
 pub returns-in-None : goal.returns-in-None
@@ -14,7 +14,7 @@ returns-in-None g c =
     let f = g.F.Field.ops in
     let q = c.args.request.now in
     let words = c.args.words.now in
-    let whole = simp (c.order.ensures, c.value_count.ensures) at c.in_default.ensures in
+    let whole = simp (c.SIZE.ensures, g.met.F.Field.named.size_is, c.value_count.ensures) at c.in_default.ensures in
     let same = c.in-None.ensures in
     let P : List ℕ → Type 0 = Reply f q words in
     ((whole_clear whole, (none_foreign f q words whole same, tt)), subst P (sym (take_rest words 4)) (reply f q words whole same))

@@ -36,7 +36,7 @@ loop-before-preserved g c =
     let lX : length X ≡ 129 = c.loop-before.invariant.2 in
     let old : Roots f q k m (at G) (at X) = c.loop-before.invariant.4 in
     let pw = ap (power f f.alpha) (add-one k) in
-    let here : c.mul-x.result ≡ power f f.alpha (k + 1) = cc in
+    let here : c.mul-x.result ≡ power f f.alpha (k + 1) = let alpha = g.met.F.Field.named.alpha_is in cc in
     let val : c.evaluate.result ≡ q (power f f.alpha (k + 1)) = c.evaluate.ensures ∙ ap q here in
     elim c.if-evaluate-eq0.branch [
       | then-evaluate-eq0 w ↦

@@ -19,6 +19,7 @@ returns g c =
     let count = length-map words (λ word. word % g.F.Field.ops.size) in
     let value = card_entry g.met.F.Field.lawful words c.args.page in
     let word = entry words c.args.page in
+    let size = c.SIZE.ensures ∙ g.met.F.Field.named.size_is in
     let some : 0 < g.F.Field.ops.size = omega (arith, g.met.F.Field.lawful.size_least) in
     let P : ℕ → Type 0 = λ q. word % q < g.F.Field.ops.size in
-    (((omega arith, omega arith), tt), ap (λ q. entry words c.args.page % q) c.order.ensures ∙ sym value, subst P (sym c.order.ensures) (mod-lt word some))
+    (((omega arith, omega arith), tt), ap (λ q. entry words c.args.page % q) size ∙ sym value, subst P (sym size) (mod-lt word some))
