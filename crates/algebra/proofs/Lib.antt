@@ -6,3 +6,4 @@ pub mod Weights
 pub mod Sparse
 pub mod Codes
 pub mod Theorems
+pub mod Ranges

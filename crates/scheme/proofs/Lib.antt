@@ -16,3 +16,4 @@ pub mod TrueFour
 pub mod TrueThree
 pub mod Truth
 pub mod Depends
+pub mod Ranges

@@ -1,9 +1,13 @@
 -- The bad pages of a row are listed page by page.
-use Rattle.std.proofs.Common.{◌≡◌, ℕ, zero, suc, ◌+◌, ◌*◌, ◌<◌, ◌≤◌, cond, List, [], ◌∷◌, ◌++◌, length, get_or, drop, set, sym, refl, ap, ◌∙◌, subst, add-one, arith, le-ltb, lt-ltb}
+use Rattle.std.proofs.Common.{◌≡◌, ℕ, zero, suc, ◌+◌, ◌*◌, ◌<◌, ◌≤◌, Bool, true, false, cond, nat_lt, filter, ap₂, List, [], ◌∷◌, ◌++◌, length, get_or, drop, set, sym, refl, ap, ◌∙◌, subst, add-one, arith, le-ltb, lt-ltb}
+use Rattle.std.specs.Bool.{MatchBool}
+use Rattle.std.specs.List.{range_with_len}
+use Rattle.std.proofs.lemmas.List.Elements.{filter-append}
 use native.Mathlib.Decide.{ℕ_discrete, dec_lt}
 use Rattle.std.proofs.lemmas.List.{append-nil, append_assoc, length_push, get_or_push, get_or_append_left, drop_more, set_at}
 use Rattle.algebra.specs.Vectors.{Page}
 use Rattle.scheme.specs.Farm.{Table, Bad, group}
+use Rattle.scheme.proofs.Ranges.{one_more}
 use Rattle.scheme.proofs.Search.{dec_not}
 use Rattle.tally.specs.Listing.{Lists, bad_pages}
 use Rattle.tally.proofs.Halves.{not_bad}
@@ -56,6 +60,24 @@ module _ (M : ℕ) (R : Table) (s : ℕ) where
   good_next : (k : ℕ) → ¬ Bad M R s (suc k) → bad_pages M R s (suc k) ≡ bad_pages M R s k
   good_next k good =
       ap (λ b. bad_pages M R s k ++ cond b [] (suc k ∷ [])) (lt-ltb M (2 * group M R (suc k) s) (not_bad M R s (suc k) good)) ∙ append-nil (bad_pages M R s k)
+
+  -- what a test says of a page
+  abbrev pub is_bad : ℕ → Bool
+  is_bad n = cond (nat_lt M (2 * group M R n s)) false true
+
+  kept : (b : Bool) (n : ℕ) → cond (cond b false true) (n ∷ []) [] ≡ cond b [] (n ∷ [])
+  kept true n = refl
+  kept false n = refl
+
+  pub bad_filtered : (N : ℕ) → filter is_bad (range_with_len 1 N) ≡ bad_pages M R s N
+  bad_filtered zero = refl
+  bad_filtered (suc N) =
+      ap (filter is_bad) (one_more 1 N (suc N) (omega arith)) ∙ filter-append is_bad (range_with_len 1 N) (suc N ∷ [])
+      ∙ ap₂ (λ xs ys. xs ++ ys) (bad_filtered N) (kept (nat_lt M (2 * group M R (suc N) s)) (suc N))
+
+  pub bad_answered : (n : ℕ) (b : Bool) → MatchBool b (Bad M R s n) (¬ Bad M R s n) → b ≡ is_bad n
+  bad_answered n true bad = ap (λ t. cond t false true) (sym (le-ltb M (2 * group M R n s) (omega arith)))
+  bad_answered n false good = ap (λ t. cond t false true) (sym (lt-ltb M (2 * group M R n s) (not_bad M R s n good)))
 
   pub bad_more : (k : ℕ) → Bad M R s (k + 1) → bad_pages M R s (k + 1) ≡ bad_pages M R s k ++ (k + 1) ∷ []
   bad_more k = subst (λ m. Bad M R s m → bad_pages M R s m ≡ bad_pages M R s k ++ m ∷ []) (sym (add-one k)) (bad_next k)

@@ -4,7 +4,8 @@
 mod closing;
 mod listing;
 mod places;
+mod rows;
 
-pub use closing::{first_split, is_bad, is_decided};
 pub use listing::list_bad;
-pub use places::{put_signature, put_sum, signature_in, sum_in};
+pub use places::{put_signature, put_sum};
+pub use rows::Rows;

@@ -1,24 +1,10 @@
-// Reading and writing one place of a tally. A place past its end reads as 0, and is not written.
-ghost use Rattle.std.specs.Prelude.{◌≡◌, ◌-◌, ◌^◌, min, slice_index, slice_set};
+// The places of a tally, and writing one. A place past its end is not written.
+ghost use Rattle.std.specs.Prelude.{◌≡◌, ◌-◌, ◌^◌, min, slice_set};
 ghost use Rattle.tally.specs.Rows.{signature_place, sum_place};
 ghost use Rattle.tally.specs.Rows;
 
 // The sums in each row.
 const SUM_COUNT: usize = 128;
-
-// The signature of a page in the row of a station.
-pub fn signature_in(tally: &[u32], pages: usize, station: usize, page: usize) -> u32
-    ensures { result ≡ Rows.signature_in tally.now pages station page }
-{
-    word(tally, signature_place(pages, station, page))
-}
-
-// Sum j in the row of a station.
-pub fn sum_in(tally: &[u32], pages: usize, station: usize, j: usize) -> u32
-    ensures { result ≡ Rows.sum_in tally.now pages station j }
-{
-    word(tally, sum_place(pages, station, j))
-}
 
 pub fn put_signature(tally: &mut [u32], pages: usize, station: usize, page: usize, signature: u32)
     ensures { tally.new ≡ slice_set tally.old (signature_place pages station page) signature }
@@ -33,13 +19,13 @@ pub fn put_sum(tally: &mut [u32], pages: usize, station: usize, j: usize, sum: u
 }
 
 // A place, or where it is past all places of the machine, the last of these, which no tally has.
-fn signature_place(pages: usize, station: usize, page: usize) -> usize
+pub(crate) fn signature_place(pages: usize, station: usize, page: usize) -> usize
     ensures { result ≡ min (signature_place pages station page) (2 ^ 64 - 1) }
 {
     row_start(pages, station).saturating_add(page.saturating_sub(1))
 }
 
-fn sum_place(pages: usize, station: usize, j: usize) -> usize
+pub(crate) fn sum_place(pages: usize, station: usize, j: usize) -> usize
     ensures { result ≡ min (sum_place pages station j) (2 ^ 64 - 1) }
 {
     row_start(pages, station).saturating_add(pages.saturating_add(j.saturating_sub(1)))
@@ -51,12 +37,6 @@ fn row_start(pages: usize, station: usize) -> usize
     station
         .saturating_sub(1)
         .saturating_mul(pages.saturating_add(SUM_COUNT))
-}
-
-fn word(tally: &[u32], place: usize) -> u32
-    ensures { result ≡ slice_index tally.now place }
-{
-    if place < tally.len() { tally[place] } else { 0 }
 }
 
 fn put(tally: &mut [u32], place: usize, value: u32)

@@ -14,22 +14,22 @@ bounds-out-count c =
       c.requires,
       c.loop-before.invariant.0,
       c.loop-before.auto.out,
-      page_fits c.args.stations (signature_in c.args.tally.now c.args.pages) c.args.station c.loop-before.before c.args.pages
+      page_fits c.args.rows.now.stations (signature_in c.args.rows.now.words.now c.args.rows.now.pages) c.args.station c.loop-before.before c.args.pages
           c.if-is_bad.ensures c.loop-before-test.true,
     )
 
 pub offset_bounds-out-count : goal.offset_bounds-out-count
 offset_bounds-out-count c =
-    omega (arith, c.loop-before.invariant.0, pages_most c.args.stations (signature_in c.args.tally.now c.args.pages) c.args.station c.loop-before.before)
+    omega (arith, c.loop-before.invariant.0, pages_most c.args.rows.now.stations (signature_in c.args.rows.now.words.now c.args.rows.now.pages) c.args.station c.loop-before.before)
 
 pub overflow_add-count : goal.overflow_add-count
 overflow_add-count c =
-    omega (arith, c.loop-before.invariant.0, pages_most c.args.stations (signature_in c.args.tally.now c.args.pages) c.args.station c.loop-before.before)
+    omega (arith, c.loop-before.invariant.0, pages_most c.args.rows.now.stations (signature_in c.args.rows.now.words.now c.args.rows.now.pages) c.args.station c.loop-before.before)
 
 pub loop-before-preserved : goal.loop-before-preserved
 loop-before-preserved c =
-    let M = c.args.stations in
-    let R : Table = signature_in c.args.tally.now c.args.pages in
+    let M = c.args.rows.now.stations in
+    let R : Table = signature_in c.args.rows.now.words.now c.args.rows.now.pages in
     let s = c.args.station in
     let k = c.loop-before.before in
     let n = c.loop-before.count in
@@ -51,8 +51,8 @@ loop-before-preserved c =
 
 pub returns : goal.returns
 returns c =
-    let M = c.args.stations in
-    let R : Table = signature_in c.args.tally.now c.args.pages in
+    let M = c.args.rows.now.stations in
+    let R : Table = signature_in c.args.rows.now.words.now c.args.rows.now.pages in
     let s = c.args.station in
     let e : c.loop-before.before ≡ c.args.pages = omega arith in
     let pages = ap (bad_pages M R s) e in

@@ -5,5 +5,5 @@ use Rattle.tally.proofs.listing.write_bad.Given as goal
 
 abbrev pub invariant-loop-before : goal.invariant-loop-before
 invariant-loop-before l =
-    (l.count ≡ length (bad_pages l.stations (signature_in l.tally l.pages) l.station l.before))
-    × (l.out ≡ bad_pages l.stations (signature_in l.tally l.pages) l.station l.before ++ drop l.count l.initial.out)
+    (l.count ≡ length (bad_pages l.rows.stations (signature_in l.rows.words.now l.rows.pages) l.station l.before))
+    × (l.out ≡ bad_pages l.rows.stations (signature_in l.rows.words.now l.rows.pages) l.station l.before ++ drop l.count l.initial.out)
