@@ -1,5 +1,5 @@
 -- Pages of a job, the bytes that a signature runs over, and signatures.
-use Rattle.std.specs.Prelude.{◌≡◌, ℕ, zero, suc, ◌+◌, ◌-◌, ◌*◌, ◌/◌, ◌%◌, ◌≤◌, min, List, [], ◌∷◌, ◌++◌, length, take, drop, replicate, fold}
+use Rattle.std.specs.Prelude.{ℕ, zero, suc, ◌+◌, ◌-◌, ◌*◌, ◌/◌, ◌%◌, min, List, [], ◌∷◌, ◌++◌, length, take, drop, replicate, fold}
 use Rattle.field.specs.Field.{Ops, page_limit}
 use Rattle.refusal.specs.Rules.{Rule, Within, unless}
 
@@ -25,10 +25,6 @@ signature f bytes = fold (absorb f) 0 bytes
 
 abbrev pub page_signature : Ops → ℕ → List ℕ → ℕ → ℕ
 page_signature f L job n = signature f (signed_bytes L (page_bytes L job n))
-
--- of the pages 1 .. N, P relates each to e of it and to nothing else
-abbrev pub Tells : (ℕ → ℕ → Type 0) → ℕ → (ℕ → ℕ) → Type 0
-Tells P N e = (page code : ℕ) → 1 ≤ page → page ≤ N → P page code → code ≡ e page
 
 -- a number of pages that no job has is refused
 abbrev pub page_range : Ops → ℕ → List Rule

@@ -1,7 +1,7 @@
 // Sums of signatures, of a row and of a job's pages.
 ghost use Rattle.std.specs.Prelude.{◌≡◌, ℕ, ◌≤◌, length};
-ghost use Rattle.field.specs.Sums.{entry, power_sum};
-ghost use Rattle.page.specs.Pages.{page_signature, Tells};
+ghost use Rattle.field.specs.Sums.{entry, power_sum, Tells};
+ghost use Rattle.page.specs.Pages.{page_signature};
 
 use crate::page::page_signature;
 use field::Field;

@@ -1,3 +1,5 @@
 pub mod BadPages
 pub mod Capped
 pub mod Halves
+pub mod PlacesApart
+pub mod RowPutting

@@ -1,5 +1,5 @@
 -- A tally: a row for each station, counted from 1; a row has N signatures, by page, and then the sums 1 to 128.
-use Rattle.std.specs.Prelude.{◌≡◌, ℕ, ◌+◌, ◌-◌, ◌*◌, List, length, ◌≢◌, slice_index}
+use Rattle.std.specs.Prelude.{◌≡◌, ℕ, ◌+◌, ◌-◌, ◌*◌, ◌<◌, List, length, ◌≢◌, slice_index}
 use Rattle.algebra.specs.Vectors.{Page}
 use Rattle.scheme.specs.Farm.{Table, Station, Same}
 
@@ -29,3 +29,9 @@ pub record Filled (M N : ℕ) (before after : List ℕ) (R : Table) : Type 0 whe
 -- how many words M rows are
 abbrev pub tally_size : ℕ → ℕ → ℕ
 tally_size M N = M * (N + 128)
+
+-- after is before, but that the signatures of row t on the pages 1 .. k are those of the row, as far as the tally reaches
+pub record RowPut (N k t : ℕ) (before after : List ℕ) (row : ℕ → ℕ) : Type 0 where
+  pub size : length after ≡ length before
+  pub row_is : (n : ℕ) → Page k n → signature_place N t n < length before → signature_in after N t n ≡ row n
+  pub rest : (i : ℕ) → ((n : ℕ) → Page k n → i ≢ signature_place N t n) → slice_index after i ≡ slice_index before i

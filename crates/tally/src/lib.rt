@@ -4,8 +4,10 @@
 mod closing;
 mod listing;
 mod places;
+mod row;
 mod rows;
 
 pub use listing::list_bad;
 pub use places::{put_signature, put_sum};
+pub use row::put_row;
 pub use rows::Rows;

@@ -1,8 +1,8 @@
 // The rows of a tally, read. A place past its end reads as 0.
-ghost use Rattle.std.specs.Prelude.{◌≡◌, slice_index};
+ghost use Rattle.std.specs.Prelude.{◌≡◌};
 ghost use Rattle.tally.specs.Rows.{signature_in, sum_in};
 
-use crate::places::{signature_place, sum_place};
+use crate::places::{signature_at, sum_place, word};
 
 // So many words as rows of stations, each its signatures, by page, and then its sums.
 #[derive(Clone, Copy)]
@@ -17,19 +17,13 @@ impl<'a> Rows<'a> {
     pub fn signature(&self, station: usize, page: usize) -> u32
         ensures { result ≡ signature_in self.now.words.now self.now.pages station page }
     {
-        self.word(signature_place(self.pages, station, page))
+        signature_at(self.words, self.pages, station, page)
     }
 
     // Sum j in the row of a station.
     pub fn sum(&self, station: usize, j: usize) -> u32
         ensures { result ≡ sum_in self.now.words.now self.now.pages station j }
     {
-        self.word(sum_place(self.pages, station, j))
-    }
-
-    fn word(&self, place: usize) -> u32
-        ensures { result ≡ slice_index self.now.words.now place }
-    {
-        self.words.get(place).copied().unwrap_or(0)
+        word(self.words, sum_place(self.pages, station, j))
     }
 }

@@ -2,7 +2,7 @@ use Rattle.std.proofs.Common.{◌≡◌, ℕ, suc, ◌+◌, ◌-◌, ◌*◌, �
 use Rattle.field.specs.Field.{Ops, Laws, power}
 use Rattle.field.specs.Sums.{power_sum}
 use Rattle.field.proofs.Sums.{sum_more, weight_more}
-use Rattle.page.specs.Pages.{Tells}
+use Rattle.field.specs.Sums.{Tells}
 use Rattle.page.proofs.sum.sum_of.Goals as goal
 use Rattle.page.proofs.sum.sum_of.Goals.{else-loop-page-test, then-loop-page-test+else-page-pages}
 
