@@ -1,0 +1,69 @@
+// The numbers of a farm whose tally is judged.
+ghost use Rattle.std.specs.Prelude.{◌≡◌, length, MatchResult};
+ghost use Rattle.field.specs.Field.{page_limit};
+ghost use Rattle.refusal.specs.Rules.{Refused, Accepted, Within};
+ghost use Rattle.scheme.specs.Askings;
+ghost use Rattle.tally.specs.Judging.{judging};
+
+use crate::places::SUM_COUNT;
+use field::Field;
+use refusal::{Buffer, Limit, Refusal};
+use std::marker::PhantomData;
+
+const STATIONS_LEAST: usize = 3;
+
+const STATIONS_MOST: usize = 8;
+
+// The most stray copies that are reckoned with.
+const BOUND_LIMIT: usize = 64;
+
+// How many stations it has and how many pages each, and how many stray copies are reckoned with: all within their limits.
+#[derive(Drop)]
+pub struct Farm<F: Field> {
+    pub stations: usize,
+    pub pages: usize,
+    pub bound: usize,
+    field: PhantomData<F>,
+    ghost stations_in: { Within 3 8 stations },
+    ghost pages_in: { Within 1 (page_limit F.Field.ops) pages },
+    ghost bound_in: { Within 1 64 bound },
+}
+
+impl<F: Field> Farm<F> {
+    // Refused: the number of stations, of pages, the bound, then a tally that is too short for the rows.
+    pub fn judged(
+        stations: usize,
+        pages: usize,
+        bound: usize,
+        tally: &[u32],
+    ) -> Result<Farm<F>, Refusal>
+        ensures { MatchResult result
+            (λ farm. Accepted (judging F.Field.ops stations pages bound (length tally.now))
+            × (farm.stations ≡ stations) × (farm.pages ≡ pages) × (farm.bound ≡ bound))
+            (Refused (judging F.Field.ops stations pages bound (length tally.now))) }
+    {
+        if stations < STATIONS_LEAST || stations > STATIONS_MOST {
+            return Err(Refusal::Size(Limit::Stations));
+        }
+        page::accept_pages::<F>(pages)?;
+        if bound < 1 || bound > BOUND_LIMIT {
+            return Err(Refusal::Size(Limit::Bound));
+        }
+        if stations * (pages + SUM_COUNT) > tally.len() {
+            return Err(Refusal::Cramped(Buffer::Tally));
+        }
+        Ok(Farm {
+            stations,
+            pages,
+            bound,
+            field: PhantomData,
+        })
+    }
+
+    // Sums 1 to this are told of a station that is asked again.
+    pub fn all_sums(&self) -> usize
+        ensures { result ≡ Askings.all_sums self.now.pages self.now.bound }
+    {
+        self.pages.min(2 * self.bound)
+    }
+}
