@@ -1,22 +1,16 @@
 // How many sums three stations are asked for, and who is asked again.
 ghost use Rattle.std.specs.Prelude.{◌≡◌, ◌≤◌};
-ghost use Rattle.scheme.specs.Askings.{first_sums, all_sums};
+ghost use Rattle.scheme.specs.Askings;
 ghost use Rattle.scheme.specs.Three;
 
-// Sums 1 to this are asked of every station.
-pub(crate) fn first_sums(bound: usize) -> usize
-    requires { bound ≤ 64 }
-    ensures { result ≡ first_sums 3 bound }
-{
-    (3 * bound + 1) / 2
-}
+use field::Field;
+use tally::Farm;
 
-// Sums 1 to this are told of a station that is asked again.
-pub(crate) fn all_sums(pages: usize, bound: usize) -> usize
-    requires { bound ≤ 64 }
-    ensures { result ≡ all_sums pages bound }
+// Sums 1 to this are asked of every station.
+pub(crate) fn first_sums<F: Field>(farm: &Farm<F>) -> usize
+    ensures { result ≡ Askings.first_sums 3 farm.now.bound }
 {
-    pages.min(2 * bound)
+    (3 * farm.bound + 1) / 2
 }
 
 // Who is compared with station 1 anew: the station outside the pair, and 2 for the pair of 2 and 3.

@@ -20,50 +20,25 @@ pub(crate) struct Difference {
 }
 
 // The difference of two rows by so many sums, with at most `weight` codes that are not 0, if there is one.
-pub(crate) fn solve_pair<F: Field>(
+pub(crate) fn solve_difference<F: Field>(
+    farm: &Farm<F>,
     tally: &[u32],
-    pages: usize,
     first: usize,
     second: usize,
     count: usize,
     weight: usize,
 ) -> Option<Difference>
-    requires page_range { (1 ≤ pages) × (pages ≤ page_limit F.Field.ops) }
-    requires enough { Enough pages weight count }
-    ensures { DifferenceOf F.Field.ops pages weight count (Rows.sum_in tally.now pages) first second result }
+    requires { Enough farm.now.pages weight count }
+    ensures { DifferenceOf F.Field.ops farm.now.pages weight count (sum_in tally.now farm.now.pages) first second result }
 {
-    let values = sum_gaps::<F>(tally, pages, first, second, count);
-    let mut list = [Entry { page: 0, code: 0 }; 129];
-    // Differences of sums are codes, and these are not refused.
-    let Ok(answer) = solve::<F>(pages, &values[..count], weight, &mut list) else {
-        return None;
+    let rows = Rows {
+        words: tally,
+        stations: farm.stations,
+        pages: farm.pages,
     };
-    match answer {
-        Some(found) => Some(Difference {
-            first,
-            second,
-            weight: found,
-            list,
-        }),
-        None => None,
+    match pairs::solve_pair::<F>(&rows, first, second, count, weight) {
+        Ok(Some(gap)) => Some(Difference { first, second, weight: gap.weight, list: gap.list }),
+        Ok(None) => None,
+        Err(_) => unreachable(),
     }
-}
-
-// The sums 1 to `count` of one row minus those of another, from place 0 on.
-fn sum_gaps<F: Field>(
-    tally: &[u32],
-    pages: usize,
-    first: usize,
-    second: usize,
-    count: usize,
-) -> [u32; 128]
-    requires { count ≤ 128 }
-    ensures { (length result ≡ 128) × ((i : ℕ) → i < count → slice_index result i ≡ gap F.Field.ops (Rows.sum_in tally.now pages) first second (i + 1)) }
-{
-    let mut gaps = [0; 128];
-    for i in 0..count {
-        let sum = sum_in(tally, pages, first, i + 1);
-        gaps[i] = F::sub(sum, sum_in(tally, pages, second, i + 1));
-    }
-    gaps
 }
