@@ -3,21 +3,24 @@ ghost use Rattle.std.specs.Prelude.{◌≡◌, ℕ, ◌+◌, ◌^◌, ◌<◌, �
 ghost use Rattle.refusal.specs.Rules.{LowestAt};
 ghost use Rattle.link.specs.Reading.{WellFormed, GarbledAt, Whole};
 
+use crate::asked::Asked;
 use crate::kind::Kind;
-use crate::words::{kind, value};
+use crate::words::{has_kind, value};
 
 // Whether a word may stand at this position, from 1: the header's kinds, then values below the limit.
 fn well_formed(limit: u32, position: usize, word: u32) -> bool
     requires { 1 ≤ position }
     ensures { MatchBool result (WellFormed limit position word) (WellFormed limit position word → ⊥) }
 {
-    match kind(word) {
-        Some(Kind::Check) => position == 1,
-        Some(Kind::Station) => position == 2,
-        Some(Kind::First(_)) => position == 3,
-        Some(Kind::Last) => position == 4,
-        Some(Kind::Value) => position >= 5 && value(word) < limit,
-        None => false,
+    match position {
+        1 => has_kind(word, Kind::Check),
+        2 => has_kind(word, Kind::Station),
+        3 => {
+            has_kind(word, Kind::First(Asked::Sums))
+                || has_kind(word, Kind::First(Asked::Signatures))
+        }
+        4 => has_kind(word, Kind::Last),
+        _ => has_kind(word, Kind::Value) && value(word) < limit,
     }
 }
 

@@ -6,7 +6,6 @@ mod garbled;
 mod kind;
 mod reply;
 mod request;
-mod request_calls;
 mod theorems;
 mod words;
 
