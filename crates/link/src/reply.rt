@@ -32,8 +32,9 @@ fn first_foreign(request: &Request, header: [u32; 4]) -> Option<usize>
     ensures { MatchOption result (header ≡ request_words request.now) (λ position. LowestAt (ForeignAt request.now header) position) }
 {
     let due = request.words();
-    match header.iter().zip(due.iter()).position(|(word, due)| *word != *due) {
-        Some(before) => Some(before + 1),
-        None => None,
-    }
+    header
+        .iter()
+        .zip(due.iter())
+        .position(|(word, due)| word != due)
+        .map(|before| before + 1)
 }
