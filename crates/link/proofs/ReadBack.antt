@@ -24,8 +24,8 @@ asked_kinds Signatures = inr refl
 
 asked_injective : (a b : Asked) → asked_kind a ≡ asked_kind b → a ≡ b
 asked_injective Sums Sums e = refl
-asked_injective Sums Signatures e = absurd (let z : ⊥ = omega arith in z)
-asked_injective Signatures Sums e = absurd (let z : ⊥ = omega arith in z)
+asked_injective Sums Signatures e = absurd (omega arith)
+asked_injective Signatures Sums e = absurd (omega arith)
 asked_injective Signatures Signatures e = refl
 
 module _ (q : Request) where
@@ -35,12 +35,12 @@ module _ (q : Request) where
       inr (inr (inl (refl, ⊎_elim (λ k. inl (e ∙ k)) (λ k. inr (e ∙ k)) (asked_kinds q.asked))))
 
   header_formed : (limit : ℕ) (rest : List ℕ) (k : ℕ) → 1 ≤ k → k ≤ 4 → WellFormed limit k (entry (request_words q ++ rest) k)
-  header_formed limit rest zero from to = absurd (let z : ⊥ = omega arith in z)
+  header_formed limit rest zero from to = absurd (omega arith)
   header_formed limit rest (suc zero) from to = inl (refl, kind_of_word 1 q.check q.narrow.0)
   header_formed limit rest (suc (suc zero)) from to = inr (inl (refl, kind_of_word 2 q.station q.narrow.1))
   header_formed limit rest (suc (suc (suc zero))) from to = third limit
   header_formed limit rest (suc (suc (suc (suc zero)))) from to = inr (inr (inr (inl (refl, kind_of_word 5 q.last q.narrow.3))))
-  header_formed limit rest (suc (suc (suc (suc (suc k))))) from to = absurd (let z : ⊥ = omega arith in z)
+  header_formed limit rest (suc (suc (suc (suc (suc k))))) from to = absurd (omega arith)
 
 request_whole : (q : Request) → Whole 0 0 (request_words q)
 request_whole q = record { count = refl; each = λ k from to. header_formed q 0 [] k from to }
@@ -75,7 +75,7 @@ module _ (f : Ops) (l : Laws f) (q : Request) (values : List ℕ) (count : lengt
       let h : i < length values = omega arith in
       let v = get_or values i 0 in
       let is : word 6 v ≡ entry (reply_words q values) k =
-      sym (get_or-map (word 6) values i 0 0 h) ∙ ap (λ j. get_or (map (word 6) values) j 0) (let z : i ≡ k - 1 - 4 = omega arith in z)
+      sym (get_or-map (word 6) values i 0 0 h) ∙ ap (λ j. get_or (map (word 6) values) j 0) (omega arith)
       ∙ sym (get_or-append_right (request_words q) (map (word 6) values) 4 (k - 1) 0 refl (omega arith)) in
       let P : ℕ → Type 0 = λ w. (kind_of w ≡ 6) × (value_of w < f.size) in
       let value : value_of (word 6 v) < f.size = omega (arith, value_of_word 6 v (narrow i h), codes i h) in

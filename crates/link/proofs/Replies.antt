@@ -15,10 +15,10 @@ whole_clear w k from (inl (due, inr wrong)) = wrong (w.each k from (omega (arith
 whole_clear w k from (inr (past, there)) = omega (arith, w.count)
 
 pub value_word : (limit k w : ℕ) → WellFormed limit (k + 5) w → (kind_of w ≡ 6) × (value_of w < limit)
-value_word limit k w (inl (e, _)) = absurd (let z : ⊥ = omega arith in z)
-value_word limit k w (inr (inl (e, _))) = absurd (let z : ⊥ = omega arith in z)
-value_word limit k w (inr (inr (inl (e, _)))) = absurd (let z : ⊥ = omega arith in z)
-value_word limit k w (inr (inr (inr (inl (e, _))))) = absurd (let z : ⊥ = omega arith in z)
+value_word limit k w (inl (e, _)) = absurd (omega arith)
+value_word limit k w (inr (inl (e, _))) = absurd (omega arith)
+value_word limit k w (inr (inr (inl (e, _)))) = absurd (omega arith)
+value_word limit k w (inr (inr (inr (inl (e, _))))) = absurd (omega arith)
 value_word limit k w (inr (inr (inr (inr (from, kind, value))))) = (kind, value)
 
 module _ (f : Ops) (q : Request) (words : List ℕ) (w : Whole f.size (values_due q) words) (same : header words ≡ request_words q) where
@@ -34,7 +34,7 @@ module _ (f : Ops) (q : Request) (words : List ℕ) (w : Whole f.size (values_du
   pub reply : Reply f q words (drop 4 words)
   reply = record {
     parts = header_rest words (omega (arith, w.count)) ∙ ap (λ xs. xs ++ drop 4 words) same;
-    count = length-drop 4 words ∙ (let e : length words - 4 ≡ values_due q = omega (arith, w.count) in e);
+    count = length-drop 4 words ∙ (omega (arith, w.count));
     kinds = λ k h. (at_value k h).0;
     codes = λ k h. (at_value k h).1;
   }
