@@ -1,5 +1,5 @@
 -- What is written is whole, and is read back.
-use Rattle.std.proofs.Common.{◌≡◌, ℕ, zero, suc, ◌+◌, ◌-◌, ◌^◌, ◌<◌, ◌≤◌, ◌⊎◌, List, [], ◌∷◌, ◌++◌, map, length, get_or, sym, refl, ap, ◌∙◌, subst, inl, inr, ⊎_elim, arith}
+use Rattle.std.proofs.Common.{◌≡◌, ℕ, zero, suc, ◌+◌, ◌-◌, ◌^◌, ◌<◌, ◌≤◌, ◌⊎◌, List, [], ◌∷◌, ◌++◌, map, length, get_or, sym, refl, ap, ◌∙◌, inl, inr, ⊎_elim, arith}
 use Rattle.std.proofs.lemmas.List.{get_or-append_right, get_or-map, length-map, length-append}
 use Rattle.std.proofs.lemmas.Bool.{cases_lt}
 use Rattle.field.specs.Field.{Ops, Laws}
@@ -77,10 +77,9 @@ module _ (f : Ops) (l : Laws f) (q : Request) (values : List ℕ) (count : lengt
       let is : word 6 v ≡ entry (reply_words q values) k =
       sym (get_or-map (word 6) values i 0 0 h) ∙ ap (λ j. get_or (map (word 6) values) j 0) (omega arith)
       ∙ sym (get_or-append_right (request_words q) (map (word 6) values) 4 (k - 1) 0 refl (omega arith)) in
-      let P : ℕ → Type 0 = λ w. (kind_of w ≡ 6) × (value_of w < f.size) in
-      let value : value_of (word 6 v) < f.size = omega (arith, value_of_word 6 v (narrow i h), codes i h) in
-      let both = subst P is (kind_of_word 6 v (narrow i h), value) in
-      inr (inr (inr (inr (from, both.0, both.1))))
+      let kind = ap kind_of (sym is) ∙ kind_of_word 6 v (narrow i h) in
+      let value = ap value_of (sym is) ∙ value_of_word 6 v (narrow i h) in
+      inr (inr (inr (inr (from, kind, omega (arith, value, codes i h)))))
 
   whole : Whole f.size (values_due q) (reply_words q values)
   whole = record {

@@ -1,11 +1,9 @@
 -- Words by kind and value, and a whole request as the words of one.
-use Rattle.std.proofs.Common.{◌≡◌, ℕ, ◌+◌, ◌*◌, ◌^◌, ◌≤◌, List, [], ◌∷◌, ◌++◌, get_or, drop, sym, ap, ◌∙◌, div-add-mod', arith}
+use Rattle.std.proofs.Common.{◌≡◌, ℕ, ◌≤◌, List, [], ◌∷◌, ◌++◌, get_or, drop, ap, ◌∙◌, arith}
 use Rattle.std.proofs.lemmas.List.{drop_all}
 use Rattle.field.specs.Sums.{entry}
 use Rattle.link.specs.Words.{word, kind_of, value_of}
-use Rattle.link.specs.Requests.{asked_kind}
 use Rattle.link.specs.Reading.{WellFormed, Whole}
-use Rattle.link.specs.declared.asked.Asked.{Asked}
 use Rattle.link.proofs.Header.{header, header_rest}
 
 pub kind_word : (kind w : ℕ) → kind_of w ≡ kind → w ≡ word kind (value_of w)
