@@ -2,6 +2,7 @@
 #![tactic(auto)]
 
 mod card;
+mod questions;
 mod serving;
 mod shelf;
 mod theorems;
