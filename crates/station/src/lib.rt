@@ -11,5 +11,5 @@ mod trait_station;
 pub use card::Card;
 pub use serving::serve;
 pub use shelf::Shelf;
-pub use theorems::ends_agree;
+pub use theorems::{ends_agree, station_agrees};
 pub use trait_station::{SUM_LIMIT, Station};
