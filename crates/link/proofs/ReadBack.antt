@@ -31,8 +31,7 @@ asked_injective Signatures Signatures e = refl
 module _ (q : Request) where
   third : (limit : ℕ) → WellFormed limit 3 (word (asked_kind q.asked) q.first)
   third limit =
-      let e = kind_of_word (asked_kind q.asked) q.first q.narrow.2 in
-      inr (inr (inl (refl, ⊎_elim (λ k. inl (e ∙ k)) (λ k. inr (e ∙ k)) (asked_kinds q.asked))))
+      grind (arith, kind_of_word (asked_kind q.asked) q.first q.narrow.2, asked_kinds q.asked)
 
   header_formed : (limit : ℕ) (rest : List ℕ) (k : ℕ) → 1 ≤ k → k ≤ 4 → WellFormed limit k (entry (request_words q ++ rest) k)
   header_formed limit rest zero from to = absurd (omega arith)
@@ -51,9 +50,8 @@ same_values p q e =
     let a : word 1 p.check ≡ word 1 q.check = at 0 in
     let b : word 2 p.station ≡ word 2 q.station = at 1 in
     let d : word 5 p.last ≡ word 5 q.last = at 3 in
-    let kinds = sym (kind_of_word (asked_kind p.asked) p.first p.narrow.2) ∙ ap kind_of (at 2) ∙ kind_of_word (asked_kind q.asked) q.first q.narrow.2 in
-    let firsts = sym (value_of_word (asked_kind p.asked) p.first p.narrow.2) ∙ ap value_of (at 2) ∙ value_of_word (asked_kind q.asked) q.first q.narrow.2 in
-    (omega arith, omega arith, asked_injective p.asked q.asked kinds, firsts, omega arith)
+    let c : word (asked_kind p.asked) p.first ≡ word (asked_kind q.asked) q.first = at 2 in
+    (omega arith, omega arith, asked_injective p.asked q.asked (omega arith), omega arith, omega arith)
 
 pub requests_read_back : RequestsReadBack
 requests_read_back q = ((whole_clear (request_whole q), tt), λ p e. same_values p q e)
