@@ -1,5 +1,5 @@
 -- What is written is whole, and is read back.
-use Rattle.std.proofs.Common.{◌≡◌, ℕ, zero, suc, ◌+◌, ◌-◌, ◌^◌, ◌<◌, ◌≤◌, ◌⊎◌, List, [], ◌∷◌, ◌++◌, map, length, get_or, sym, refl, ap, ◌∙◌, subst, inl, inr, ⊎_elim, arith}
+use Rattle.std.proofs.Common.{◌≡◌, ℕ, zero, suc, ◌+◌, ◌-◌, ◌^◌, ◌<◌, ◌≤◌, ◌⊎◌, List, [], ◌∷◌, ◌++◌, map, length, get_or, sym, refl, ap, ◌∙◌, inl, inr, ⊎_elim, arith}
 use Rattle.std.proofs.lemmas.List.{get_or-append_right, get_or-map, length-map, length-append}
 use Rattle.std.proofs.lemmas.Bool.{cases_lt}
 use Rattle.field.specs.Field.{Ops, Laws}
@@ -24,23 +24,22 @@ asked_kinds Signatures = inr refl
 
 asked_injective : (a b : Asked) → asked_kind a ≡ asked_kind b → a ≡ b
 asked_injective Sums Sums e = refl
-asked_injective Sums Signatures e = absurd (let z : ⊥ = omega arith in z)
-asked_injective Signatures Sums e = absurd (let z : ⊥ = omega arith in z)
+asked_injective Sums Signatures e = absurd (omega arith)
+asked_injective Signatures Sums e = absurd (omega arith)
 asked_injective Signatures Signatures e = refl
 
 module _ (q : Request) where
   third : (limit : ℕ) → WellFormed limit 3 (word (asked_kind q.asked) q.first)
   third limit =
-      let e = kind_of_word (asked_kind q.asked) q.first q.narrow.2 in
-      inr (inr (inl (refl, ⊎_elim (λ k. inl (e ∙ k)) (λ k. inr (e ∙ k)) (asked_kinds q.asked))))
+      grind (arith, kind_of_word (asked_kind q.asked) q.first q.narrow.2, asked_kinds q.asked)
 
   header_formed : (limit : ℕ) (rest : List ℕ) (k : ℕ) → 1 ≤ k → k ≤ 4 → WellFormed limit k (entry (request_words q ++ rest) k)
-  header_formed limit rest zero from to = absurd (let z : ⊥ = omega arith in z)
+  header_formed limit rest zero from to = absurd (omega arith)
   header_formed limit rest (suc zero) from to = inl (refl, kind_of_word 1 q.check q.narrow.0)
   header_formed limit rest (suc (suc zero)) from to = inr (inl (refl, kind_of_word 2 q.station q.narrow.1))
   header_formed limit rest (suc (suc (suc zero))) from to = third limit
   header_formed limit rest (suc (suc (suc (suc zero)))) from to = inr (inr (inr (inl (refl, kind_of_word 5 q.last q.narrow.3))))
-  header_formed limit rest (suc (suc (suc (suc (suc k))))) from to = absurd (let z : ⊥ = omega arith in z)
+  header_formed limit rest (suc (suc (suc (suc (suc k))))) from to = absurd (omega arith)
 
 request_whole : (q : Request) → Whole 0 0 (request_words q)
 request_whole q = record { count = refl; each = λ k from to. header_formed q 0 [] k from to }
@@ -51,9 +50,8 @@ same_values p q e =
     let a : word 1 p.check ≡ word 1 q.check = at 0 in
     let b : word 2 p.station ≡ word 2 q.station = at 1 in
     let d : word 5 p.last ≡ word 5 q.last = at 3 in
-    let kinds = sym (kind_of_word (asked_kind p.asked) p.first p.narrow.2) ∙ ap kind_of (at 2) ∙ kind_of_word (asked_kind q.asked) q.first q.narrow.2 in
-    let firsts = sym (value_of_word (asked_kind p.asked) p.first p.narrow.2) ∙ ap value_of (at 2) ∙ value_of_word (asked_kind q.asked) q.first q.narrow.2 in
-    (omega arith, omega arith, asked_injective p.asked q.asked kinds, firsts, omega arith)
+    let c : word (asked_kind p.asked) p.first ≡ word (asked_kind q.asked) q.first = at 2 in
+    (omega arith, omega arith, asked_injective p.asked q.asked (omega arith), omega arith, omega arith)
 
 pub requests_read_back : RequestsReadBack
 requests_read_back q = ((whole_clear (request_whole q), tt), λ p e. same_values p q e)
@@ -75,12 +73,11 @@ module _ (f : Ops) (l : Laws f) (q : Request) (values : List ℕ) (count : lengt
       let h : i < length values = omega arith in
       let v = get_or values i 0 in
       let is : word 6 v ≡ entry (reply_words q values) k =
-      sym (get_or-map (word 6) values i 0 0 h) ∙ ap (λ j. get_or (map (word 6) values) j 0) (let z : i ≡ k - 1 - 4 = omega arith in z)
+      sym (get_or-map (word 6) values i 0 0 h) ∙ ap (λ j. get_or (map (word 6) values) j 0) (omega arith)
       ∙ sym (get_or-append_right (request_words q) (map (word 6) values) 4 (k - 1) 0 refl (omega arith)) in
-      let P : ℕ → Type 0 = λ w. (kind_of w ≡ 6) × (value_of w < f.size) in
-      let value : value_of (word 6 v) < f.size = omega (arith, value_of_word 6 v (narrow i h), codes i h) in
-      let both = subst P is (kind_of_word 6 v (narrow i h), value) in
-      inr (inr (inr (inr (from, both.0, both.1))))
+      let kind = ap kind_of (sym is) ∙ kind_of_word 6 v (narrow i h) in
+      let value = ap value_of (sym is) ∙ value_of_word 6 v (narrow i h) in
+      inr (inr (inr (inr (from, kind, omega (arith, value, codes i h)))))
 
   whole : Whole f.size (values_due q) (reply_words q values)
   whole = record {

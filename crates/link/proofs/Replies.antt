@@ -1,5 +1,5 @@
 -- A whole reply with the request's header is accepted, and its rest are the values asked for.
-use Rattle.std.proofs.Common.{◌≡◌, ℕ, ◌+◌, ◌-◌, ◌<◌, ◌≤◌, List, ◌++◌, length, get_or, drop, sym, ap, ◌∙◌, subst, inl, inr, arith}
+use Rattle.std.proofs.Common.{◌≡◌, ℕ, ◌+◌, ◌<◌, ◌≤◌, List, ◌++◌, length, get_or, drop, sym, ap, ◌∙◌, inl, inr, arith}
 use Rattle.std.proofs.lemmas.List.{length-drop}
 use Rattle.field.specs.Field.{Ops}
 use Rattle.field.specs.Sums.{entry}
@@ -15,11 +15,7 @@ whole_clear w k from (inl (due, inr wrong)) = wrong (w.each k from (omega (arith
 whole_clear w k from (inr (past, there)) = omega (arith, w.count)
 
 pub value_word : (limit k w : ℕ) → WellFormed limit (k + 5) w → (kind_of w ≡ 6) × (value_of w < limit)
-value_word limit k w (inl (e, _)) = absurd (let z : ⊥ = omega arith in z)
-value_word limit k w (inr (inl (e, _))) = absurd (let z : ⊥ = omega arith in z)
-value_word limit k w (inr (inr (inl (e, _)))) = absurd (let z : ⊥ = omega arith in z)
-value_word limit k w (inr (inr (inr (inl (e, _))))) = absurd (let z : ⊥ = omega arith in z)
-value_word limit k w (inr (inr (inr (inr (from, kind, value))))) = (kind, value)
+value_word limit k w h = (omega arith, omega arith)
 
 module _ (f : Ops) (q : Request) (words : List ℕ) (w : Whole f.size (values_due q) words) (same : header words ≡ request_words q) where
   pub none_foreign : (k : ℕ) → 1 ≤ k → ForeignAt q words k → ⊥
@@ -28,13 +24,12 @@ module _ (f : Ops) (q : Request) (words : List ℕ) (w : Whole f.size (values_du
   at_value : (k : ℕ) → k < length (drop 4 words) → (kind_of (get_or (drop 4 words) k 0) ≡ 6) × (value_of (get_or (drop 4 words) k 0) < f.size)
   at_value k h =
       let there : k + 5 ≤ length words = omega (arith, length-drop 4 words) in
-      let P : ℕ → Type 0 = λ x. (kind_of x ≡ 6) × (value_of x < f.size) in
-      subst P (sym (rest_entry words k)) (value_word f.size k (entry words (k + 5)) (w.each (k + 5) (omega arith) there))
+      rw (rest_entry words k) (value_word f.size k (entry words (k + 5)) (w.each (k + 5) (omega arith) there))
 
   pub reply : Reply f q words (drop 4 words)
   reply = record {
     parts = header_rest words (omega (arith, w.count)) ∙ ap (λ xs. xs ++ drop 4 words) same;
-    count = length-drop 4 words ∙ (let e : length words - 4 ≡ values_due q = omega (arith, w.count) in e);
+    count = length-drop 4 words ∙ (omega (arith, w.count));
     kinds = λ k h. (at_value k h).0;
     codes = λ k h. (at_value k h).1;
   }

@@ -3,12 +3,15 @@
 
 mod asked;
 mod garbled;
+mod kind;
 mod reply;
 mod request;
-mod request_calls;
 mod theorems;
+mod words;
 
 pub use asked::Asked;
+pub use kind::Kind;
 pub use reply::read_reply;
 pub use request::Request;
 pub use theorems::{replies_read_back, requests_read_back};
+pub use words::word;

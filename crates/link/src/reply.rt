@@ -1,5 +1,5 @@
 // Reading a reply against its request.
-ghost use Rattle.std.specs.Prelude.{◌≡◌, ℕ, ◌<◌, ◌≤◌, [], ◌∷◌, Some, None, MatchResult};
+ghost use Rattle.std.specs.Prelude.{◌≡◌, MatchOption, MatchResult};
 ghost use Rattle.refusal.specs.Rules.{Refused, Accepted, LowestAt};
 ghost use Rattle.link.specs.Requests.{request_words};
 ghost use Rattle.link.specs.Reading.{ForeignAt, Reply, reading_reply};
@@ -21,35 +21,20 @@ pub fn read_reply<'a, F: Field>(request: &Request, words: &'a [u32]) -> Result<&
     let [check, station, first, last, values @ ..] = words else {
         unreachable()
     };
-    match first_foreign(request, *check, *station, *first, *last) {
+    match first_foreign(request, [*check, *station, *first, *last]) {
         Some(position) => Err(Refusal::Foreign(position)),
         None => Ok(values),
     }
 }
 
 // The lowest position at which the header is not the request's.
-fn first_foreign(
-    request: &Request,
-    check: u32,
-    station: u32,
-    first: u32,
-    last: u32,
-) -> Option<usize>
-    ensures { elim result [
-      | Some position ↦ LowestAt (ForeignAt request.now (check ∷ station ∷ first ∷ last ∷ [])) position
-      | None ↦ check ∷ station ∷ first ∷ last ∷ [] ≡ request_words request.now
-    ] }
+fn first_foreign(request: &Request, header: [u32; 4]) -> Option<usize>
+    ensures { MatchOption result (header ≡ request_words request.now) (λ position. LowestAt (ForeignAt request.now header) position) }
 {
-    let [due_check, due_station, due_first, due_last] = request.words();
-    if check != due_check {
-        Some(1)
-    } else if station != due_station {
-        Some(2)
-    } else if first != due_first {
-        Some(3)
-    } else if last != due_last {
-        Some(4)
-    } else {
-        None
-    }
+    let due = request.words();
+    header
+        .iter()
+        .zip(due.iter())
+        .position(|(word, due)| word != due)
+        .map(|before| before + 1)
 }

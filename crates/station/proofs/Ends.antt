@@ -1,5 +1,5 @@
 -- What is served is read back.
-use Rattle.std.proofs.Common.{ℕ, ◌+◌, ◌<◌, List, length, get_or, sym, subst, arith}
+use Rattle.std.proofs.Common.{ℕ, ◌+◌, ◌<◌, List, length, get_or, arith}
 use Rattle.std.proofs.lemmas.List.FromFn.{length-map-range_with_len, get_or-map-range_with_len}
 use Rattle.field.specs.Field.{Ops, Laws}
 use Rattle.field.specs.Sums.{entry}
@@ -18,9 +18,8 @@ module _ (f : Ops) (l : Laws f) (row : List ℕ) (codes : (k : ℕ) → entry ro
 
   answers_code : (q : Request) (k : ℕ) → k < length (answers f row q) → get_or (answers f row q) k 0 < f.size
   answers_code q k h =
-      let P : ℕ → Type 0 = λ x. x < f.size in
       let inside : k < values_due q = omega (arith, length-map-range_with_len (answer f row q.asked) q.first (values_due q)) in
-      subst P (sym (get_or-map-range_with_len (answer f row q.asked) q.first (values_due q) k (q.first + k) 0 inside (omega arith))) (answer_code q.asked (q.first + k))
+      rw (get_or-map-range_with_len (answer f row q.asked) q.first (values_due q) k (q.first + k) 0 inside (omega arith)) (answer_code q.asked (q.first + k))
 
 pub ends_agree : EndsAgree
 ends_agree f l row codes q =

@@ -1,3 +1,2 @@
 pub mod Rows
-pub mod Writing
 pub mod Ends

@@ -1,3 +1,4 @@
 pub mod Questions
 pub mod Kinds
+pub mod Codes
 pub mod Serving

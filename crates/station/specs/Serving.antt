@@ -46,10 +46,13 @@ Served f row number words before after result =
     ((q : Request) × (words ≡ request_words q) × ServedRequest f row number q before after result)
     ⊎ ((refusal : Refusal) × (result ≡ Err refusal) × Refused (reading_request words) refusal × (after ≡ before))
 
--- What a station serves to a request, read against that request, is accepted and gives the answers of its meaning.
-abbrev pub EndsAgree : Type 0
-EndsAgree =
-    (f : Ops) → Laws f → (row : List ℕ) → ((k : ℕ) → entry row k < f.size) → (q : Request) →
+-- What is served to a request, read against that request, is accepted and gives the answers.
+abbrev pub EndsMeet : Ops → List ℕ → Request → Type 0
+EndsMeet f row q =
     Accepted (reading_reply f q (reply_words q (answers f row q)))
     × Reply f q (reply_words q (answers f row q)) (map (word 6) (answers f row q))
     × (map value_of (map (word 6) (answers f row q)) ≡ answers f row q)
+
+-- So it is for every row of codes.
+abbrev pub EndsAgree : Type 0
+EndsAgree = (f : Ops) → Laws f → (row : List ℕ) → ((k : ℕ) → entry row k < f.size) → (q : Request) → EndsMeet f row q

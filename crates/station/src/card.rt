@@ -1,9 +1,11 @@
 // A card: the words that a slicer wrote, one for each page.
-ghost use Rattle.std.specs.Prelude.{◌≡◌, ◌%◌, map, length, MatchResult};
+ghost use Rattle.std.specs.Prelude.{◌≡◌, length, MatchResult};
 ghost use Rattle.refusal.specs.Rules.{Refused, Accepted};
-ghost use Rattle.station.specs.Kinds.{making_card};
+ghost use Rattle.station.specs.Kinds.{making_card, card_row};
+ghost use Rattle.station.specs.Codes.{card_codes};
 
-use crate::trait_station::{SUM_LIMIT, Station};
+use crate::questions::{accept_page, accept_sum};
+use crate::trait_station::Station;
 use field::Field;
 use refusal::Refusal;
 use std::marker::PhantomData;
@@ -31,23 +33,21 @@ impl<'a, F: Field> Card<'a, F> {
 }
 
 impl<'a, F: Field> Station<F> for Card<'a, F> {
-    ghost row = { λ card. map (λ word. word % F.Field.ops.size) card.words.now };
+    ghost row = { λ card. card_row F.Field.ops card.words.now };
+
+    ghost codes = { λ card page. card_codes F.Field.lawful card.words.now page };
 
     fn page_count(&self) -> usize {
         self.words.len()
     }
 
     fn signature(&self, page: usize) -> Result<u32, Refusal> {
-        if page < 1 || page > self.words.len() {
-            return Err(Refusal::Range);
-        }
+        accept_page(page, self.page_count())?;
         Ok(self.words[page - 1] % F::SIZE)
     }
 
     fn sum(&self, j: usize) -> Result<u32, Refusal> {
-        if j < 1 || j > SUM_LIMIT {
-            return Err(Refusal::Range);
-        }
+        accept_sum(j)?;
         Ok(page::row_sum::<F>(self.words, j))
     }
 }

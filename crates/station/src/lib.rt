@@ -2,6 +2,7 @@
 #![tactic(auto)]
 
 mod card;
+mod questions;
 mod serving;
 mod shelf;
 mod theorems;
@@ -10,5 +11,5 @@ mod trait_station;
 pub use card::Card;
 pub use serving::serve;
 pub use shelf::Shelf;
-pub use theorems::ends_agree;
+pub use theorems::{ends_agree, station_agrees};
 pub use trait_station::{SUM_LIMIT, Station};

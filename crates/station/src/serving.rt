@@ -7,7 +7,7 @@ ghost use Rattle.station.specs.Serving.{serving, index_limit, answer, answers, I
 
 use crate::trait_station::{SUM_LIMIT, Station};
 use field::Field;
-use link::{Asked, Request};
+use link::{Asked, Kind, Request};
 use refusal::{Buffer, Refusal};
 
 // Answers a request to the station with this number: how many words of the reply are written.
@@ -20,10 +20,8 @@ pub fn serve<F: Field, S: Station<F>>(
 ) -> Result<usize, Refusal>
     ensures { Served F.Field.ops (S.Station.row station.now) number words.now reply.old reply.new result }
 {
-    match Request::read(words) {
-        Ok(request) => serve_request::<F, S>(station, number, &request, reply),
-        Err(refusal) => Err(refusal),
-    }
+    let request = Request::read(words)?;
+    serve_request::<F, S>(station, number, &request, reply)
 }
 
 // The same for a request that has been read.
@@ -35,14 +33,11 @@ fn serve_request<F: Field, S: Station<F>>(
 ) -> Result<usize, Refusal>
     ensures { ServedRequest F.Field.ops (S.Station.row station.now) number request.now reply.old reply.new result }
 {
-    match admit::<F, S>(station, number, request, reply.len()) {
-        Ok(_) => {
-            write_header(request, reply);
-            write_answers::<F, S>(station, request, reply);
-            Ok(4 + request.value_count())
-        }
-        Err(refusal) => Err(refusal),
-    }
+    admit::<F, S>(station, number, request, reply.len())?;
+    let count = 4 + request.value_count();
+    reply[..4].copy_from_slice(&request.words());
+    write_answers::<F, S>(station, request, &mut reply[4..count]);
+    Ok(count)
 }
 
 // Whether a request is answered.
@@ -72,30 +67,15 @@ fn admit<F: Field, S: Station<F>>(
     Ok(())
 }
 
-fn write_header(request: &Request, reply: &mut [u32])
-    requires { 4 ≤ length reply.old }
-    ensures { reply.new ≡ request_words request.now ++ drop 4 reply.old }
-{
-    let [check, station, first, last] = request.words();
-    reply[0] = check;
-    reply[1] = station;
-    reply[2] = first;
-    reply[3] = last;
-}
-
-// Kind 6, the kind of a value word.
-const VALUE_KIND: u32 = 6 << 28;
-
-// Writes a value word for each answer, after the header.
-fn write_answers<F: Field, S: Station<F>>(station: &S, request: &Request, reply: &mut [u32])
+// Writes a value word for each answer.
+fn write_answers<F: Field, S: Station<F>>(station: &S, request: &Request, values: &mut [u32])
     requires range { InRange (S.Station.row station.now) request.now }
-    requires room { 4 + values_due request.now ≤ length reply.old }
-    ensures { reply.new
-        ≡ (take 4 reply.old ++ map (Words.word 6) (answers F.Field.ops (S.Station.row station.now) request.now))
-        ++ drop (4 + values_due request.now) reply.old }
+    requires room { length values.old ≡ values_due request.now }
+    ensures { values.new ≡ map (Words.word 6) (answers F.Field.ops (S.Station.row station.now) request.now) }
 {
-    for k in 0..request.value_count() {
-        reply[4 + k] = VALUE_KIND + ask::<F, S>(station, request.asked, request.first as usize + k);
+    for (k, value) in values.iter_mut().enumerate() {
+        let answer = ask::<F, S>(station, request.asked, request.first as usize + k);
+        *value = link::word(Kind::Value, answer);
     }
 }
 
@@ -106,14 +86,9 @@ fn ask<F: Field, S: Station<F>>(station: &S, asked: Asked, index: usize) -> u32
     ensures value { result ≡ answer F.Field.ops (S.Station.row station.now) asked index }
     ensures code { result < F.Field.ops.size }
 {
-    match asked {
-        Asked::Sums => match station.sum(index) {
-            Ok(value) => value,
-            Err(_) => unreachable(),
-        },
-        Asked::Signatures => match station.signature(index) {
-            Ok(value) => value,
-            Err(_) => unreachable(),
-        },
-    }
+    let answer = match asked {
+        Asked::Sums => station.sum(index),
+        Asked::Signatures => station.signature(index),
+    };
+    answer.unwrap()
 }

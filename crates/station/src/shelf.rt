@@ -3,8 +3,10 @@ ghost use Rattle.std.specs.Prelude.{◌≡◌, length, MatchResult};
 ghost use Rattle.refusal.specs.Rules.{Refused, Accepted};
 ghost use Rattle.page.specs.Pages.{cutting, page_count};
 ghost use Rattle.station.specs.Kinds.{job_row};
+ghost use Rattle.station.specs.Codes.{job_codes};
 
-use crate::trait_station::{SUM_LIMIT, Station};
+use crate::questions::{accept_page, accept_sum};
+use crate::trait_station::Station;
 use field::Field;
 use refusal::Refusal;
 use std::marker::PhantomData;
@@ -26,36 +28,32 @@ impl<'a, F: Field> Shelf<'a, F> {
             × (shelf.pages ≡ page_count page_length (length job.now)))
             (Refused (cutting F.Field.ops page_length (length job.now))) }
     {
-        match page::count_pages::<F>(job.len(), page_length) {
-            Ok(pages) => Ok(Shelf {
-                job,
-                page_length,
-                pages,
-                field: PhantomData,
-            }),
-            Err(refusal) => Err(refusal),
-        }
+        let pages = page::count_pages::<F>(job.len(), page_length)?;
+        Ok(Shelf {
+            job,
+            page_length,
+            pages,
+            field: PhantomData,
+        })
     }
 }
 
 impl<'a, F: Field> Station<F> for Shelf<'a, F> {
     ghost row = { λ shelf. job_row F.Field.ops shelf.page_length shelf.pages shelf.job.now };
 
+    ghost codes = { λ shelf page. job_codes F.Field.lawful shelf.page_length shelf.pages shelf.job.now page };
+
     fn page_count(&self) -> usize {
         self.pages
     }
 
     fn signature(&self, page: usize) -> Result<u32, Refusal> {
-        if page < 1 || page > self.pages {
-            return Err(Refusal::Range);
-        }
+        accept_page(page, self.page_count())?;
         Ok(page::page_signature::<F>(self.job, self.page_length, page))
     }
 
     fn sum(&self, j: usize) -> Result<u32, Refusal> {
-        if j < 1 || j > SUM_LIMIT {
-            return Err(Refusal::Range);
-        }
+        accept_sum(j)?;
         Ok(page::job_sum::<F>(self.job, self.page_length, self.pages, j))
     }
 }

@@ -30,4 +30,7 @@ pub trait Station<F: Field> {
         ensures { MatchResult result
             (λ value. Accepted (asking_sum j) × (value ≡ power_sum F.Field.ops (length (row self.now)) (entry (row self.now)) j) × (value < F.Field.ops.size))
             (Refused (asking_sum j)) };
+
+    // Every entry of the row is a code: what is served to any request reads back by this.
+    ghost codes: { (station : Self) (page : ℕ) → entry (row station) page < F.Field.ops.size };
 }

@@ -1,4 +1,4 @@
-use Rattle.std.proofs.Common.{ℕ, ◌<◌, length, sym, ◌∙◌, subst, arith}
+use Rattle.std.proofs.Common.{length, ◌∙◌, rules}
 use Rattle.field.proofs.Laws.{total_code}
 use Rattle.station.proofs.Rows.{card_sum}
 use Rattle.station.proofs.card.CardStation.sum.Goals as goal
@@ -7,5 +7,4 @@ pub returns : goal.returns
 returns g c =
     let l = g.met.F.Field.lawful in
     let words = c.args.self.now.words.now in
-    let P : ℕ → Type 0 = λ x. x < g.F.Field.ops.size in
-    (((omega arith, omega arith), tt), c.row_sum.ensures ∙ card_sum l words c.args.j, subst P (sym c.row_sum.ensures) (total_code l (length words) _))
+    (search rules, c.row_sum.ensures ∙ card_sum l words c.args.j, rw c.row_sum.ensures (total_code l (length words) _))
