@@ -1,5 +1,6 @@
 -- From the shape of the suspect pairs to the differences that are relied on.
-use Rattle.std.proofs.Common.{◌≡◌, ℕ, ◌≤◌, refl, subst}
+use Rattle.std.proofs.Common.{◌≡◌, ℕ, ◌≤◌, Some, refl, subst, arith}
+use Rattle.std.specs.Option.{unwrap_or}
 use Rattle.field.specs.Field.{Ops}
 use Rattle.scheme.specs.Farm.{Table}
 use Rattle.scheme.specs.Pairs as shape
@@ -33,7 +34,7 @@ module _ (f : Ops) (M N bound : ℕ) (T : Table) (g : PairGaps) (solved : PairsS
         disjoint = a.disjoint;
       }
 
-  known_by_shape : 4 ≤ M → (d : Doubt) → Shape M (SuspectIn M g) d → (d ≡ TwoApart → ⊥) → Known f M N bound T (relied f d (gaps_in f g)) (doubted d)
+  known_by_shape : 4 ≤ M → (d : Doubt) → Shape M (SuspectIn M g) d → (d ≡ TwoApart → ⊥) → Known f M N bound T (relied f d (gaps_in f g)) (unwrap_or (doubted d) 0)
   known_by_shape four TwoApart x ne = absurd (ne refl)
   known_by_shape four Nobody x ne = none_suspect solved.differences (λ s t p y. x s t p ((solved.suspects s t p).0 y))
   known_by_shape four (Triangle a b c m) x ne =
@@ -55,5 +56,12 @@ module _ (f : Ops) (M N bound : ℕ) (T : Table) (g : PairGaps) (solved : PairsS
         (λ m from less all. x.1.2 m from less (λ s t p y. all s t p ((solved.suspects s t p).1 y))),
       )
 
-  pub known_by_sums : 4 ≤ M → (d : Doubt) → Shape g.stations (SuspectIn g.stations g) d → (d ≡ TwoApart → ⊥) → Known f M N bound T (relied f d (gaps_in f g)) (doubted d)
+  pub known_by_sums : 4 ≤ M → (d : Doubt) → Shape g.stations (SuspectIn g.stations g) d → (d ≡ TwoApart → ⊥) → Known f M N bound T (relied f d (gaps_in f g)) (unwrap_or (doubted d) 0)
   known_by_sums four d x ne = known_by_shape four d (shaped d x) ne
+
+-- the station in doubt is a station
+pub station_from : (g : PairGaps) (d : Doubt) → Shape g.stations (SuspectIn g.stations g) d → (i : ℕ) → doubted d ≡ Some i → 1 ≤ i
+station_from g TwoApart x i e = absurd (cc)
+station_from g Nobody x i e = absurd (cc)
+station_from g (Triangle a b c m) x i e = absurd (cc)
+station_from g (Station k) x i e = let same : k ≡ i = cc in omega (arith, x.1.0)

@@ -1,6 +1,6 @@
 pub mod Adding
+pub mod Groups
 pub mod Filling
-pub mod Settled
 pub mod Relied
 pub mod Weighed
 pub mod Outcomes

@@ -1,5 +1,5 @@
 -- The differences that are relied on, and the station in doubt, by the shape of the suspect pairs.
-use Rattle.std.specs.Prelude.{ℕ}
+use Rattle.std.specs.Prelude.{ℕ, Option, Some, None}
 use Rattle.field.specs.Field.{Ops}
 use Rattle.scheme.specs.Differences.{Gaps}
 use Rattle.scheme.specs.Four.{by_way}
@@ -13,9 +13,9 @@ relied f Nobody D = D
 relied f (Triangle x y z outside) D = by_way f x y z outside D
 relied f (Station i) D = D
 
--- the station in doubt; 0 where there is none
-abbrev pub doubted : Doubt → ℕ
-doubted TwoApart = 0
-doubted Nobody = 0
-doubted (Triangle x y z outside) = 0
-doubted (Station i) = i
+-- the station in doubt, if there is one
+abbrev pub doubted : Doubt → Option ℕ
+doubted TwoApart = None
+doubted Nobody = None
+doubted (Triangle x y z outside) = None
+doubted (Station i) = Some i

@@ -1,20 +1,24 @@
--- What weighing four stations and more comes to, and what the tally holds then.
+-- What comes after the first asking of four stations and more, and what the tally holds then.
 use Rattle.std.specs.Prelude.{◌≡◌, ℕ, List}
 use Rattle.field.specs.Field.{Ops}
-use Rattle.scheme.specs.Farm.{Table}
-use Rattle.scheme.specs.Askings.{over, split, filled}
-use Rattle.scheme.specs.Four as rules
+use Rattle.scheme.specs.Askings as rules
+use Rattle.scheme.specs.Four.{Doubted}
 use Rattle.scheme.specs.Weighing.{WeighsFour}
 use Rattle.pairs.specs.Held.{gaps_in}
-use Rattle.tally.specs.Rows as tally
+use Rattle.tally.specs.Rows.{sum_in, signature_in}
+use Rattle.tally.specs.Judging.{Ends}
 use Rattle.four.specs.declared.weighing.Weighing.{Weighing}
-use Rattle.four.specs.declared.weighing.Weighing.TheVariants.{Over, Split, Filled, Doubted}
-use Rattle.four.specs.Relied.{relied, doubted}
+use Rattle.four.specs.declared.weighing.Weighing.TheVariants.{Ended, Doubted as InDoubt}
+use Rattle.four.specs.Relied.{relied}
 
-abbrev pub Weighed : Ops → (M N bound : ℕ) → (before after : List ℕ) → Weighing → Type 0
-Weighed f M N bound before after Over = WeighsFour f M N bound (tally.sum_in before N) (tally.signature_in before N 1) over × (after ≡ before)
-Weighed f M N bound before after (Split n) = WeighsFour f M N bound (tally.sum_in before N) (tally.signature_in before N 1) (split n) × (after ≡ before)
-Weighed f M N bound before after Filled =
-    (R : Table) × WeighsFour f M N bound (tally.sum_in before N) (tally.signature_in before N 1) (filled R) × tally.Filled M N before after R
-Weighed f M N bound before after (Doubted r) =
-    rules.Doubted f M N bound (tally.sum_in before N) (relied f r.doubt (gaps_in f r.gaps)) (doubted r.doubt) × (after ≡ before)
+module _ (f : Ops) (M N bound : ℕ) (before after : List ℕ) where
+  -- what the first sums come to where nobody is asked again
+  abbrev pub EndsAtOnce : rules.Outcome → Type 0
+  EndsAtOnce rules.over = WeighsFour f M N bound (sum_in before N) (signature_in before N 1) rules.over
+  EndsAtOnce (rules.split n) = WeighsFour f M N bound (sum_in before N) (signature_in before N 1) (rules.split n)
+  EndsAtOnce (rules.filled R) = WeighsFour f M N bound (sum_in before N) (signature_in before N 1) (rules.filled R)
+  EndsAtOnce (rules.asks k) = ⊥
+
+  abbrev pub Weighed : Weighing → Type 0
+  Weighed (Ended outcome) = Ends M N EndsAtOnce before after outcome
+  Weighed (InDoubt r i) = Doubted f M N bound (sum_in before N) (relied f r.doubt (gaps_in f r.gaps)) i × (after ≡ before)

@@ -1,121 +1,64 @@
-// Groups of the stations other than one, by the differences of their rows.
-ghost use Rattle.std.specs.Prelude.{◌≡◌, ℕ, ◌≤◌, true, false, Some, None};
+// Groups of the stations other than the one aside, by the differences of their rows.
+ghost use Rattle.std.specs.Prelude.{◌≡◌, ℕ, MatchBool, MatchOption};
 ghost use Rattle.algebra.specs.Vectors.{Page};
-ghost use Rattle.scheme.specs.Farm.{count, agree, Lowest};
-ghost use Rattle.scheme.specs.Four.{except, group_of_others, lead_of_others, Scattered};
+ghost use Rattle.scheme.specs.Farm.{Lowest};
+ghost use Rattle.scheme.specs.Four.{group_of_others, lead_of_others, Scattered};
+ghost use Rattle.four.specs.Groups.{agreeing};
 
 use crate::gaps::RowGaps;
+use crate::others::Others;
 use field::Field;
 
-// The lowest page on which the largest group of the others is below half of all stations.
-pub(crate) fn first_scattered<F: Field, G: RowGaps<F>>(
-    gaps: &G,
-    stations: usize,
-    pages: usize,
-    aside: usize,
-) -> Option<usize>
-    requires { stations ≤ 8 }
-    ensures { elim result [
-      | Some n ↦ Lowest pages (Scattered stations (G.RowGaps.gaps gaps.now) aside) n
-      | None ↦ ((n : ℕ) → Page pages n → Scattered stations (G.RowGaps.gaps gaps.now) aside n → ⊥)
-    ] }
-{
-    for before in 0..pages {
-        if is_scattered::<F, G>(gaps, stations, aside, before + 1) {
-            return Some(before + 1);
+impl<'a, F: Field, G: RowGaps<F>> Others<'a, F, G> {
+    // The lowest page on which the largest group of the others is below half of all stations.
+    pub(crate) fn first_scattered(&self) -> Option<usize>
+        ensures { MatchOption result
+            ((n : ℕ) → Page self.now.farm.now.pages n → ¬ Scattered self.now.farm.now.stations (G.RowGaps.gaps self.now.gaps.now) self.now.aside n)
+            (Lowest self.now.farm.now.pages (Scattered self.now.farm.now.stations (G.RowGaps.gaps self.now.gaps.now) self.now.aside)) }
+    {
+        (1..=self.farm.pages).find(|page| self.is_scattered(*page))
+    }
+
+    fn is_scattered(&self, page: usize) -> bool
+        ensures { MatchBool result
+            (Scattered self.now.farm.now.stations (G.RowGaps.gaps self.now.gaps.now) self.now.aside page)
+            (¬ Scattered self.now.farm.now.stations (G.RowGaps.gaps self.now.gaps.now) self.now.aside page) }
+    {
+        self.group_size(page, self.lead(page)) < self.farm.stations / 2
+    }
+
+    // The lowest station of the largest group of the others.
+    pub(crate) fn lead(&self, page: usize) -> usize
+        ensures { result ≡ lead_of_others self.now.farm.now.stations (G.RowGaps.gaps self.now.gaps.now) self.now.aside page }
+    {
+        let mut lead = 1;
+        let mut largest = self.group_size(page, 1);
+        for station in 1..=self.farm.stations {
+            let size = self.group_size(page, station);
+            if largest < size {
+                lead = station;
+                largest = size;
+            }
         }
+        lead
     }
-    None
-}
 
-fn is_scattered<F: Field, G: RowGaps<F>>(
-    gaps: &G,
-    stations: usize,
-    aside: usize,
-    page: usize,
-) -> bool
-    requires { stations ≤ 8 }
-    ensures { elim result [
-      | true ↦ Scattered stations (G.RowGaps.gaps gaps.now) aside page
-      | false ↦ (Scattered stations (G.RowGaps.gaps gaps.now) aside page → ⊥)
-    ] }
-{
-    let lead = find_lead::<F, G>(gaps, stations, aside, page);
-    group_size::<F, G>(gaps, stations, aside, page, lead) < stations / 2
-}
-
-// The lowest station of the largest group of the others.
-pub(crate) fn find_lead<F: Field, G: RowGaps<F>>(
-    gaps: &G,
-    stations: usize,
-    aside: usize,
-    page: usize,
-) -> usize
-    requires { stations ≤ 8 }
-    ensures { result ≡ lead_of_others stations (G.RowGaps.gaps gaps.now) aside page }
-{
-    let mut lead = 1;
-    let mut largest = group_size::<F, G>(gaps, stations, aside, page, 1);
-    for before in 0..stations {
-        let size = group_size::<F, G>(gaps, stations, aside, page, before + 1);
-        if largest < size {
-            lead = before + 1;
-            largest = size;
+    // The size of the group of a station among the others; the one aside has none.
+    fn group_size(&self, page: usize, station: usize) -> usize
+        ensures { result ≡ group_of_others self.now.farm.now.stations (G.RowGaps.gaps self.now.gaps.now) self.now.aside page station }
+    {
+        if station == self.aside {
+            return 0;
         }
+        (1..=self.farm.stations)
+            .filter(|other| self.agrees(page, *other, station))
+            .count()
     }
-    lead
-}
 
-// The size of the group of a station among the others; the one aside has none.
-fn group_size<F: Field, G: RowGaps<F>>(
-    gaps: &G,
-    stations: usize,
-    aside: usize,
-    page: usize,
-    station: usize,
-) -> usize
-    requires { stations ≤ 8 }
-    ensures { result ≡ group_of_others stations (G.RowGaps.gaps gaps.now) aside page station }
-{
-    if station == aside {
-        0
-    } else {
-        count_agreeing::<F, G>(gaps, stations, aside, page, station)
-    }
-}
-
-// How many of the others agree with a station.
-fn count_agreeing<F: Field, G: RowGaps<F>>(
-    gaps: &G,
-    stations: usize,
-    aside: usize,
-    page: usize,
-    station: usize,
-) -> usize
-    requires { stations ≤ 8 }
-    ensures { result ≡ count stations (except aside (λ t. agree (G.RowGaps.gaps gaps.now t station page) 0)) }
-{
-    let mut agreeing = 0;
-    for before in 0..stations {
-        agreeing += agrees::<F, G>(gaps, aside, page, station, before + 1);
-    }
-    agreeing
-}
-
-// 1 for a station other than the one aside that agrees, else 0.
-fn agrees<F: Field, G: RowGaps<F>>(
-    gaps: &G,
-    aside: usize,
-    page: usize,
-    station: usize,
-    other: usize,
-) -> usize
-    ensures value { result ≡ except aside (λ t. agree (G.RowGaps.gaps gaps.now t station page) 0) other }
-    ensures few { result ≤ 1 }
-{
-    if other == aside || gaps.gap(other, station, page) != 0 {
-        0
-    } else {
-        1
+    // Whether a station other than the one aside agrees with another.
+    fn agrees(&self, page: usize, other: usize, station: usize) -> bool
+        ensures { result ≡ agreeing (G.RowGaps.gaps self.now.gaps.now) self.now.aside page station other }
+    {
+        other != self.aside && self.gaps.gap(other, station, page) == 0
     }
 }

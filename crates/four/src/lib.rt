@@ -6,11 +6,10 @@ mod calls;
 mod filling;
 mod gaps;
 mod groups;
-mod outcome;
+mod others;
 mod relied;
 mod settling;
 mod weighing;
 
 pub use calls::{settle_four, weigh_four};
 pub use gaps::RowGaps;
-pub use outcome::Outcome;

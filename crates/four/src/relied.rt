@@ -6,7 +6,7 @@ ghost use Rattle.four.specs.Relied.{relied, doubted};
 
 use crate::gaps::RowGaps;
 use field::Field;
-use pairs::{Doubt, PairGaps, gap_in};
+use pairs::{Doubt, PairGaps};
 
 // The solved differences of all pairs, and the shape of the suspect ones.
 #[derive(Drop)]
@@ -16,13 +16,13 @@ pub(crate) struct Relied {
 }
 
 impl Relied {
-    // The station in doubt, or 0.
-    pub(crate) fn aside(&self) -> usize
+    // The station in doubt, if there is one.
+    pub(crate) fn aside(&self) -> Option<usize>
         ensures { result ≡ doubted self.now.doubt }
     {
         match self.doubt {
-            Doubt::Station(station) => station,
-            _ => 0,
+            Doubt::Station(station) => Some(station),
+            _ => None,
         }
     }
 }
@@ -32,17 +32,15 @@ impl<F: Field> RowGaps<F> for Relied {
 
     fn gap(&self, s: usize, t: usize, page: usize) -> u32 {
         match self.doubt {
-            Doubt::Triangle { x, y, z, outside } => {
-                if is_among(x, y, z, s) && is_among(x, y, z, t) {
-                    F::sub(
-                        gap_in::<F>(&self.gaps, s, outside, page),
-                        gap_in::<F>(&self.gaps, t, outside, page),
-                    )
-                } else {
-                    gap_in::<F>(&self.gaps, s, t, page)
-                }
+            Doubt::Triangle { x, y, z, outside }
+                if is_among(x, y, z, s) && is_among(x, y, z, t) =>
+            {
+                F::sub(
+                    self.gaps.gap::<F>(s, outside, page),
+                    self.gaps.gap::<F>(t, outside, page),
+                )
             }
-            _ => gap_in::<F>(&self.gaps, s, t, page),
+            _ => self.gaps.gap::<F>(s, t, page),
         }
     }
 }

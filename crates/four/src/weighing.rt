@@ -1,6 +1,6 @@
 // Weighing four stations and more: what the first sums say.
-ghost use Rattle.std.specs.Prelude.{◌≤◌, length, Some, None};
-ghost use Rattle.field.specs.Field.{page_limit};
+ghost use Rattle.std.specs.Prelude.{◌≡◌, ℕ, ◌≤◌, length, Some, IfSome, MatchOption};
+ghost use Rattle.std.specs.Option.{unwrap_or};
 ghost use Rattle.scheme.specs.Pairs.{TwoApart};
 ghost use Rattle.scheme.specs.Differences.{Suspect};
 ghost use Rattle.scheme.specs.Four.{Known};
@@ -9,74 +9,61 @@ ghost use Rattle.tally.specs.Rows.{sum_in, tally_size};
 ghost use Rattle.four.specs.Relied.{relied as relied-gaps, doubted};
 ghost use Rattle.four.specs.Weighed.{Weighed};
 
-use crate::adding::all_add;
 use crate::filling::fill_rows;
-use crate::groups::first_scattered;
+use crate::others::Others;
 use crate::relied::Relied;
 use field::Field;
-use pairs::{Doubt, doubt_in, solve_pairs};
+use pairs::{Doubt, solve_pairs};
+use tally::{Farm, Outcome};
 
-// How the first asking ends.
+// What comes after the first asking.
 #[derive(Drop)]
 pub(crate) enum Weighing {
-    Over,
-    // at this page
-    Split(usize),
-    // the rows are written
-    Filled,
-    // one station is to be asked again
-    Doubted(Relied),
+    // it ends, and nobody is asked again
+    Ended(Outcome),
+    // this station is in doubt; the differences of the others are relied on
+    Doubted { relied: Relied, aside: usize },
 }
 
-pub(crate) fn weigh_rows<F: Field>(
-    stations: usize,
-    pages: usize,
-    bound: usize,
-    tally: &mut [u32],
-) -> Weighing
-    requires least { 4 ≤ stations }
-    requires few { stations ≤ 8 }
-    requires some { 1 ≤ pages }
-    requires narrow { pages ≤ page_limit F.Field.ops }
-    requires known { bound ≤ 64 }
-    requires room { tally_size stations pages ≤ length tally.old }
-    ensures { Weighed F.Field.ops stations pages bound tally.old tally.new result }
+pub(crate) fn weigh_rows<F: Field>(farm: &Farm<F>, tally: &mut [u32]) -> Weighing
+    requires least { 4 ≤ farm.now.stations }
+    requires room { tally_size farm.now.stations farm.now.pages ≤ length tally.old }
+    ensures { Weighed F.Field.ops farm.now.stations farm.now.pages farm.now.bound tally.old tally.new result }
 {
-    let Some(relied) = rely::<F>(stations, pages, bound, tally) else {
-        return Weighing::Over;
+    let Some(relied) = rely(farm, tally) else {
+        return Weighing::Ended(Outcome::Over);
     };
-    let aside = relied.aside();
-    if !all_add::<F, Relied>(&relied, stations, pages, aside) {
-        return Weighing::Over;
+    let others = Others {
+        farm,
+        gaps: &relied,
+        aside: relied.aside().unwrap_or(0),
+    };
+    if !others.all_add() {
+        return Weighing::Ended(Outcome::Over);
     }
-    if aside == 0 {
-        fill_rows::<F, Relied>(&relied, stations, pages, tally);
-        return Weighing::Filled;
-    }
-    match first_scattered::<F, Relied>(&relied, stations, pages, aside) {
-        Some(page) => Weighing::Split(page),
-        None => Weighing::Doubted(relied),
+    let Some(aside) = relied.aside() else {
+        fill_rows(farm, &relied, tally);
+        return Weighing::Ended(Outcome::Filled);
+    };
+    match others.first_scattered() {
+        Some(page) => Weighing::Ended(Outcome::Split(page)),
+        None => Weighing::Doubted { relied, aside },
     }
 }
 
 // The differences to be relied on; none where two suspect pairs are disjoint.
-fn rely<F: Field>(stations: usize, pages: usize, bound: usize, tally: &[u32]) -> Option<Relied>
-    requires least { 4 ≤ stations }
-    requires few { stations ≤ 8 }
-    requires some { 1 ≤ pages }
-    requires narrow { pages ≤ page_limit F.Field.ops }
-    requires known { bound ≤ 64 }
-    ensures { elim result [
-      | Some relied ↦ Known F.Field.ops stations pages bound (sum_in tally.now pages)
-          (relied-gaps F.Field.ops relied.doubt (gaps_in F.Field.ops relied.gaps)) (doubted relied.doubt)
-      | None ↦ TwoApart stations (Suspect F.Field.ops stations pages bound (sum_in tally.now pages))
-    ] }
+fn rely<F: Field>(farm: &Farm<F>, tally: &[u32]) -> Option<Relied>
+    requires { 4 ≤ farm.now.stations }
+    ensures station { IfSome result (λ relied. (i : ℕ) → doubted relied.doubt ≡ Some i → 1 ≤ i) }
+    ensures known { MatchOption result
+        (TwoApart farm.now.stations (Suspect F.Field.ops farm.now.stations farm.now.pages farm.now.bound (sum_in tally.now farm.now.pages)))
+        (λ relied. Known F.Field.ops farm.now.stations farm.now.pages farm.now.bound (sum_in tally.now farm.now.pages)
+          (relied-gaps F.Field.ops relied.doubt (gaps_in F.Field.ops relied.gaps)) (unwrap_or (doubted relied.doubt) 0)) }
 {
-    let gaps = match solve_pairs::<F>(stations, pages, bound, tally) {
-        Ok(gaps) => gaps,
-        Err(_) => unreachable(),
+    let Ok(gaps) = solve_pairs::<F>(farm.stations, farm.pages, farm.bound, tally) else {
+        unreachable()
     };
-    match doubt_in(&gaps) {
+    match gaps.doubt() {
         Doubt::TwoApart => None,
         doubt => Some(Relied { gaps, doubt }),
     }

@@ -72,3 +72,11 @@ fn lowest_outside(x: usize, y: usize, z: usize) -> usize
         4
     }
 }
+
+impl PairGaps {
+    pub fn doubt(&self) -> Doubt
+        ensures { Shape self.now.stations (SuspectIn self.now.stations self.now) result }
+    {
+        doubt_in(self)
+    }
+}

@@ -57,3 +57,11 @@ fn code_in(gaps: &PairGaps, place: usize, page: usize) -> u32
         None => 0,
     }
 }
+
+impl PairGaps {
+    pub fn gap<F: Field>(&self, s: usize, t: usize, page: usize) -> u32
+        ensures { result ≡ gaps_in F.Field.ops self.now s t page }
+    {
+        gap_in::<F>(self, s, t, page)
+    }
+}

@@ -11,7 +11,7 @@ use crate::pair_gaps::PairGaps;
 use field::Field;
 use refusal::{Limit, Refusal};
 use solve::{Entry, solve};
-use tally::sum_in;
+use tally::Rows;
 
 const STATIONS_LEAST: usize = 3;
 
@@ -103,12 +103,10 @@ fn differences<F: Field>(pages: usize, sums: usize, tally: &[u32], s: usize, t: 
     ensures long { length result ≡ 128 }
     ensures gaps { (k : ℕ) → k < sums → slice_index result k ≡ gap F.Field.ops (sum_in tally.now pages) s t (k + 1) }
 {
+    let rows = Rows { words: tally, stations: 8, pages };
     let mut values = [0; 128];
     for k in 0..sums {
-        values[k] = F::sub(
-            sum_in(tally, pages, s, k + 1),
-            sum_in(tally, pages, t, k + 1),
-        );
+        values[k] = F::sub(rows.sum(s, k + 1), rows.sum(t, k + 1));
     }
     values
 }

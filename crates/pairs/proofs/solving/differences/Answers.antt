@@ -7,5 +7,5 @@ loop-k-preserved g c =
       simp length-set long,
       below_more _ _
           (λ k h. let ne : k ≢ c.loop-k.k = omega arith in rw get_or-set_other (c.loop-k.invariant.1 k h))
-          (let lt : c.loop-k.k < length c.loop-k.values = omega arith in rw get_or-set_same (c.sub.ensures ∙ ap₂ g.F.Field.ops.minus c.sum_in.ensures c.sum_in-in-loop-k.ensures)),
+          (let lt : c.loop-k.k < length c.loop-k.values = omega arith in rw get_or-set_same (c.sub.ensures ∙ ap₂ g.F.Field.ops.minus c.sum.ensures c.sum-in-loop-k.ensures)),
     )

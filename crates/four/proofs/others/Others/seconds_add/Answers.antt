@@ -1,0 +1,15 @@
+use Rattle.std.proofs.Common.{◌+◌, ◌≢◌, rules}
+use Rattle.algebra.proofs.Ranges.{all_from}
+use Rattle.four.specs.Adding.{ThirdsAdd, ThirdBreaks}
+use Rattle.four.proofs.AllAdding.{others_told}
+use Rattle.four.proofs.others.Others.seconds_add.Goals as goal
+
+pub returns : goal.returns
+returns g c =
+    let f = g.F.Field.ops in
+    let M = c.args.self.now.farm.now.stations in
+    let N = c.args.self.now.farm.now.pages in
+    let E = g.G.RowGaps.gaps c.args.self.now.gaps.now in
+    let i = c.args.self.now.aside in
+    others_told M i c.args.s (ThirdsAdd f N E M i c.args.s) (ThirdBreaks f N E M i c.args.s) c.all.result (all_from _ _ (c.args.s + 1) M (λ t. t ≢ i → ThirdsAdd f N E M i c.args.s t) (λ t. (t ≢ i) × ThirdBreaks f N E M i c.args.s t) c.new.ensures.start c.new.ensures.end c.new.ensures.exhausted
+    c.all.result c.all.ensures.ran (λ x q p. search rules) (λ x q p. search rules))
