@@ -32,14 +32,13 @@ impl<F: Field> RowGaps<F> for Relied {
 
     fn gap(&self, s: usize, t: usize, page: usize) -> u32 {
         match self.doubt {
-            Doubt::Triangle { x, y, z, outside }
-                if is_among(x, y, z, s) && is_among(x, y, z, t) =>
-            {
-                F::sub(
-                    self.gaps.gap::<F>(s, outside, page),
-                    self.gaps.gap::<F>(t, outside, page),
-                )
-            }
+            Doubt::Triangle { x, y, z, outside } if is_among(x, y, z, s) && is_among(x, y, z, t) =>
+                {
+                    F::sub(
+                        self.gaps.gap::<F>(s, outside, page),
+                        self.gaps.gap::<F>(t, outside, page),
+                    )
+                }
             _ => self.gaps.gap::<F>(s, t, page),
         }
     }

@@ -66,7 +66,7 @@ impl<'a, F: Field, G: RowGaps<F>> Others<'a, F, G> {
     fn lead_sums(&self, tally: &[u32]) -> [u32; 128]
         ensures { (k : ℕ) → k < all_sums self.now.farm.now.pages self.now.farm.now.bound → slice_index result k
             ≡ sum_from_leads F.Field.ops self.now.farm.now.stations self.now.farm.now.pages self.now.farm.now.bound
-                (sum_in tally.now self.now.farm.now.pages) (G.RowGaps.gaps self.now.gaps.now) self.now.aside (k + 1) }
+            (sum_in tally.now self.now.farm.now.pages) (G.RowGaps.gaps self.now.gaps.now) self.now.aside (k + 1) }
     {
         let rows = Rows {
             words: tally,
@@ -87,9 +87,9 @@ impl<'a, F: Field, G: RowGaps<F>> Others<'a, F, G> {
     fn solve_leads(&self, tally: &[u32]) -> Option<[Entry; 129]>
         ensures { MatchOption result
             ((e : ℕ → ℕ) → ¬ FromLeads F.Field.ops self.now.farm.now.stations self.now.farm.now.pages self.now.farm.now.bound
-                (sum_in tally.now self.now.farm.now.pages) (G.RowGaps.gaps self.now.gaps.now) self.now.aside e)
+            (sum_in tally.now self.now.farm.now.pages) (G.RowGaps.gaps self.now.gaps.now) self.now.aside e)
             (λ list. FromLeads F.Field.ops self.now.farm.now.stations self.now.farm.now.pages self.now.farm.now.bound
-                (sum_in tally.now self.now.farm.now.pages) (G.RowGaps.gaps self.now.gaps.now) self.now.aside (code_at list)) }
+            (sum_in tally.now self.now.farm.now.pages) (G.RowGaps.gaps self.now.gaps.now) self.now.aside (code_at list)) }
     {
         let values = self.lead_sums(tally);
         let mut list = [Entry { page: 0, code: 0 }; 129];

@@ -58,7 +58,7 @@ fn rely<F: Field>(farm: &Farm<F>, tally: &[u32]) -> Option<Relied>
     ensures known { MatchOption result
         (TwoApart farm.now.stations (Suspect F.Field.ops farm.now.stations farm.now.pages farm.now.bound (sum_in tally.now farm.now.pages)))
         (λ relied. Known F.Field.ops farm.now.stations farm.now.pages farm.now.bound (sum_in tally.now farm.now.pages)
-          (relied-gaps F.Field.ops relied.doubt (gaps_in F.Field.ops relied.gaps)) (unwrap_or (doubted relied.doubt) 0)) }
+        (relied-gaps F.Field.ops relied.doubt (gaps_in F.Field.ops relied.gaps)) (unwrap_or (doubted relied.doubt) 0)) }
 {
     let Ok(gaps) = solve_pairs::<F>(farm.stations, farm.pages, farm.bound, tally) else {
         unreachable()

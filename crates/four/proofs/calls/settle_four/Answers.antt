@@ -11,6 +11,8 @@ returns-in-Ended g c =
 pub returns-in-Doubted : goal.returns-in-Doubted
 returns-in-Doubted g c =
     let farm = c.in_ok-farm.farm in
-    let same = c.in_ok-farm.ensures in
-    (search rules, rw (← same.1, ← same.2, ← same.3)
-    (doubted_settles g.F.Field.ops farm.stations farm.pages farm.bound c.args.tally.now c.settle_aside.new.tally c.weigh_rows.new.tally c.in-Doubted.ensures.1 c.settle_aside.result c.settle_aside.ensures))
+    let same = c.in_ok-farm.ensures in (
+      search rules,
+      rw (← same.1, ← same.2, ← same.3)
+          (doubted_settles g.F.Field.ops farm.stations farm.pages farm.bound c.args.tally.now c.settle_aside.new.tally c.weigh_rows.new.tally c.in-Doubted.ensures.1 c.settle_aside.result c.settle_aside.ensures),
+    )

@@ -13,8 +13,8 @@ loop-station-preserved g c =
     let t = c.loop-station.station-counter in (
       omega arith,
       subst (λ k. RowsPut N k before c.put_row.new.tally (due f N E before)) (let q : t ≡ t + 1 - 1 = omega arith in q)
-      (rows_more f M N E before c.requires t (t - 1) c.loop-station.tally c.put_row.new.tally c.loop-station.invariant.1 (omega arith) (omega arith) (omega arith)
-      (c.put_row.ensures (E 1 t) (λ page code from to p. search rules))),
+          (rows_more f M N E before c.requires t (t - 1) c.loop-station.tally c.put_row.new.tally c.loop-station.invariant.1 (omega arith) (omega arith) (omega arith)
+          (c.put_row.ensures (E 1 t) (λ page code from to p. search rules))),
     )
 
 pub returns-2 : goal.returns-2

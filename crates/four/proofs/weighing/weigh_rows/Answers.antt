@@ -33,10 +33,12 @@ returns-in-None g c =
     let is : doubted r.doubt ≡ Some i = sym c.aside-2.ensures ∙ c.in-Some-aside.is in
     let same : c.unwrap_or.result ≡ i = c.unwrap_or.ensures ∙ ap (λ o. unwrap_or o 0) (c.aside.ensures ∙ is) in
     let K : ℕ → Type 0 = Known f farm.stations farm.pages farm.bound (sum_in c.args.tally.now farm.pages) E in
-    let A : ℕ → Type 0 = λ k. ¬ Fails f farm.stations farm.pages E k in
-    (record {
-      known = subst K (ap (λ o. unwrap_or o 0) is) c.in-Some.ensures.known;
-      station = c.in-Some.ensures.station i is;
-      adds = subst A same c.if-not-all_add.ensures;
-      gathered = λ n page. subst (λ k. ¬ Scattered farm.stations E k n) same (c.in-None.ensures n page);
-    }, refl)
+    let A : ℕ → Type 0 = λ k. ¬ Fails f farm.stations farm.pages E k in (
+      record {
+        known = subst K (ap (λ o. unwrap_or o 0) is) c.in-Some.ensures.known;
+        station = c.in-Some.ensures.station i is;
+        adds = subst A same c.if-not-all_add.ensures;
+        gathered = λ n page. subst (λ k. ¬ Scattered farm.stations E k n) same (c.in-None.ensures n page);
+      },
+      refl,
+    )
