@@ -1,8 +1,10 @@
 -- Choosing the pages that are roots, one by one.
-use Rattle.std.proofs.Common.{◌≡◌, ℕ, ◌+◌, ◌<◌, ◌≤◌, sym, ap, ◌∙◌, arith}
+use Rattle.std.proofs.Common.{◌≡◌, ℕ, ◌+◌, ◌<◌, ◌≤◌, List, [], ◌∷◌, ◌++◌, map, length, zero, suc, sym, refl, ap, ◌∙◌, subst, arith, length-append}
 use native.Mathlib.Decide.{ℕ_discrete}
 use Rattle.field.specs.Field.{Ops, power}
-use Rattle.solve.specs.Candidates.{Roots, FewRoots}
+use Rattle.solve.specs.declared.candidates.Candidate.{Candidate}
+use Rattle.solve.specs.Polynomials.{at}
+use Rattle.solve.specs.Candidates.{pages_of, points_of, Roots, RootPages, FewRoots}
 
 module _ (f : Ops) (q : ℕ → ℕ) where
   pub skip : (k m : ℕ) (g x : ℕ → ℕ) → Roots f q k m g x → ¬ (q (power f f.alpha (k + 1)) ≡ 0) → Roots f q (k + 1) m g x
@@ -39,3 +41,28 @@ module _ (f : Ops) (q : ℕ → ℕ) where
   pub at_most : (N k m : ℕ) (g x : ℕ → ℕ) → FewRoots f q N → Roots f q k m g x → k ≤ N → m ≤ 128
   at_most N k m g x few h le =
       few m g x (record { rise = h.rising.rise; page = λ i a. let b = h.rising.page i a in (b.0, omega arith); point = h.rising.point }) h.root
+
+-- what stands in a list with one more at its end
+before_last : (h : Candidate → ℕ) (cs : List Candidate) (c : Candidate) (i : ℕ) → i < length cs → at (map h (cs ++ c ∷ [])) i ≡ at (map h cs) i
+before_last h [] c i b = absurd (omega arith)
+before_last h (d ∷ cs) c zero b = refl
+before_last h (d ∷ cs) c (suc i) b = before_last h cs c i (omega arith)
+
+at_last : (h : Candidate → ℕ) (cs : List Candidate) (c : Candidate) → at (map h (cs ++ c ∷ [])) (length cs) ≡ h c
+at_last h [] c = refl
+at_last h (d ∷ cs) c = at_last h cs c
+
+-- the next page is a root, and joins
+pub join : (f : Ops) (q : ℕ → ℕ) (k : ℕ) (cs : List Candidate) → RootPages f q k cs → q (power f f.alpha (k + 1)) ≡ 0
+    → (x : ℕ) → x ≡ power f f.alpha (k + 1) → RootPages f q (k + 1) (cs ++ record { page = k + 1; point = x } ∷ [])
+join f q k cs h z x is =
+    let c : Candidate = record { page = k + 1; point = x } in
+    subst (λ (m : ℕ). Roots f q (k + 1) m (at (pages_of (cs ++ c ∷ []))) (at (points_of (cs ++ c ∷ [])))) (sym (length-append cs (c ∷ [])))
+    (keep f q k (length cs) (at (pages_of cs)) (at (points_of cs)) (at (pages_of (cs ++ c ∷ []))) (at (points_of (cs ++ c ∷ []))) h z
+    (before_last (λ c. c.page) cs c) (at_last (λ c. c.page) cs c) (before_last (λ c. c.point) cs c) (at_last (λ c. c.point) cs c ∙ is))
+
+pub joined_fits : (f : Ops) (q : ℕ → ℕ) (N k : ℕ) (cs : List Candidate) → FewRoots f q N → RootPages f q k cs → q (power f f.alpha (k + 1)) ≡ 0 → k < N → length cs < 128
+joined_fits f q N k cs few h z lt =
+    let c : Candidate = record { page = k + 1; point = power f f.alpha (k + 1) } in
+    let most = at_most f q N (k + 1) (length (cs ++ c ∷ [])) _ _ few (join f q k cs h z (power f f.alpha (k + 1)) refl) (omega arith) in
+    omega (arith, length-append cs (c ∷ []))

@@ -21,17 +21,17 @@ covers_all f N t values all p m g x roots = record {
   covers = λ e sol n b some. roots.all n b refl;
 }
 
-module _ {f : Ops} (l : Laws f) (spread : Spread f) (N : ℕ) (le : N ≤ f.places) (t k : ℕ) (values : List ℕ) (p : ℕ → ℕ) (loc : Locates f t (at values) p k) where
+module _ {f : Ops} (l : Laws f) (spread : Spread f) (N : ℕ) (le : N ≤ f.places) (t : ℕ) (values p : List ℕ) (loc : Locates f t (at values) p) where
   -- a locator has at most t roots
-  pub few_located : (m : ℕ) (g x : ℕ → ℕ) → Rising f N m g x → ((i : ℕ) → i < m → value f k p 0 (x i) ≡ 0) → m ≤ t
+  pub few_located : (m : ℕ) (g x : ℕ → ℕ) → Rising f N m g x → ((i : ℕ) → i < m → value f (length p) (at p) 0 (x i) ≡ 0) → m ≤ t
   few_located m g x r root =
       let short = loc.short in
-      let w = fewer_roots l spread N le loc.degree p loc.monic m g x r (λ i b. ap (λ n. value f n p 0 (x i)) (sym loc.terms) ∙ root i b) in
+      let w = fewer_roots l spread N le loc.degree (at p) loc.monic m g x r (λ i b. ap (λ n. value f n (at p) 0 (x i)) (sym loc.terms) ∙ root i b) in
       omega arith
 
-  pub covers_located : t + t ≤ length values → (m : ℕ) (g x : ℕ → ℕ) → Roots f (value f k p 0) N m g x → Covers f N t values m g x
+  pub covers_located : t + t ≤ length values → (m : ℕ) (g x : ℕ → ℕ) → Roots f (value f (length p) (at p) 0) N m g x → Covers f N t values m g x
   covers_located two m g x roots = record {
     rising = roots.rising;
     known = let w = few_located m g x roots.rising roots.root in omega arith;
-    covers = λ e sol n b some. roots.all n b (at_roots l spread N le values (length values) e sol.codes sol.sums t sol.light two p k loc n b some);
+    covers = λ e sol n b some. roots.all n b (at_roots l spread N le values (length values) e sol.codes sol.sums t sol.light two p loc n b some);
   }

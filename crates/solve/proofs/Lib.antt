@@ -1,4 +1,4 @@
-pub mod Turns
+pub mod Folds
 pub mod Words
 pub mod Windows
 pub mod Search
@@ -7,8 +7,11 @@ pub mod Choosing
 pub mod Recovery
 pub mod Covering
 pub mod Products
+pub mod Turns
+pub mod Coding
 pub mod Vectors
 pub mod Terms
+pub mod Weighing
 pub mod Listings
 pub mod Solutions
 pub mod Lookups

@@ -9,8 +9,12 @@ use Rattle.algebra.proofs.Codes.{zero_code}
 use Rattle.solve.specs.declared.Entry.{Entry}
 use Rattle.solve.specs.Solution.{Solution}
 use Rattle.solve.specs.Answer.{blank, code_at, Listed, Solved}
-use Rattle.solve.specs.Candidates.{Rising, Covers, Forced, Verified}
-use Rattle.solve.specs.Listing.{Nonzeros}
+use Rattle.solve.specs.declared.candidates.Candidate.{Candidate}
+use Rattle.solve.specs.declared.entries.Coded.{Coded}
+use Rattle.solve.specs.Polynomials.{at}
+use Rattle.solve.specs.Candidates.{pages_of, points_of, candidates_of, codes_of, Rising, RisingIn, Covers, CoveredBy, Forced, ForcedAt, Verified, VerifiedCodes}
+use Rattle.solve.specs.Listing.{Nonzeros, NonzerosOf}
+use Rattle.solve.proofs.Coding.{along}
 use Rattle.solve.proofs.Vectors.{vector, vector_off, vector_at, vector_weight, vector_sum, among, total_same}
 use Rattle.solve.proofs.Listings.{code_at_none, code_at_first}
 
@@ -94,16 +98,37 @@ module _ {f : Ops} (l : Laws f) (N t : ℕ) (values : List ℕ) (m : ℕ) (g x v
   }
 
   -- there is no solution if these codes are too many or have other sums
-  pub unsolvable : Decides false (Verified f m (λ k. x (k - 1)) (λ k. v (k - 1)) t values) → (e : ℕ → ℕ) → Solution f N t values e → ⊥
-  unsolvable wrong e sol = not_from_Decides false wrong refl (
+  no_solution : Decides false (Verified f m (λ k. x (k - 1)) (λ k. v (k - 1)) t values) → (e : ℕ → ℕ) → Solution f N t values e → ⊥
+  no_solution wrong e sol = not_from_Decides false wrong refl (
     omega (arith, weight_same N e (vector m g v) (only e sol), vector_weight f N m g x v cover.rising, sol.light),
     λ j b. vector_sum l N g x v j m cover.rising
         ∙ total_same f N _ _ (λ n c. ap (λ y. f.times y (power f f.alpha (j * n))) (sym (only e sol n c))) ∙ sol.sums j b,
   )
 
-  pub solved : Decides true (Verified f m (λ k. x (k - 1)) (λ k. v (k - 1)) t values) → (k : ℕ) (list : List Entry) → m < length list → Nonzeros m g v k list → Solved f N t values k list
-  solved right k list fits h = record {
+  the_solution : Decides true (Verified f m (λ k. x (k - 1)) (λ k. v (k - 1)) t values) → (k : ℕ) (list : List Entry) → m < length list → Nonzeros m g v k list → Solved f N t values k list
+  the_solution right k list fits h = record {
     listed = listed f N m g x v cover.rising k list h fits;
     solves = same_solution f N t values (vector m g v) (code_at list) (listed_is f N m g x v cover.rising k list h) (solves (right.0 refl));
     only = λ e sol n b. only e sol n b ∙ listed_is f N m g x v cover.rising k list h n b;
   }
+
+-- the same of coded candidates
+module _ {f : Ops} (l : Laws f) (N t : ℕ) (values : List ℕ) (cs : List Candidate) (cover : CoveredBy f N t values cs) (coded : List Coded) (same : candidates_of coded ≡ cs)
+    (small : (i : ℕ) → i < length cs → at (codes_of coded) i < f.size) (forced : RisingIn f N cs → ForcedAt f N cs values (codes_of coded)) where
+  covered : Covers f N t values (length coded) (at (pages_of (candidates_of coded))) (at (points_of (candidates_of coded)))
+  covered = along coded cs same (λ m cs. Covers f N t values m (at (pages_of cs)) (at (points_of cs))) cover
+
+  codes : (i : ℕ) → i < length coded → at (codes_of coded) i < f.size
+  codes = along coded cs same (λ m _. (i : ℕ) → i < m → at (codes_of coded) i < f.size) small
+
+  forced_codes : Forced f N (length coded) (at (pages_of (candidates_of coded))) values (at (codes_of coded))
+  forced_codes = along coded cs same (λ m cs. Forced f N m (at (pages_of cs)) values (at (codes_of coded))) (forced cover.rising)
+
+  pub unsolvable : (xs : List Coded) → xs ≡ coded → Decides false (VerifiedCodes f xs t values) → (e : ℕ → ℕ) → Solution f N t values e → ⊥
+  unsolvable xs is wrong = no_solution l N t values (length coded) _ _ _ covered codes forced_codes (subst (λ xs. Decides false (VerifiedCodes f xs t values)) is wrong)
+
+  pub solved : (xs : List Coded) → xs ≡ coded → Decides true (VerifiedCodes f xs t values) → (ys : List Coded) → ys ≡ coded → (k : ℕ) (list : List Entry) → length ys < length list → NonzerosOf ys k list
+      → Solved f N t values k list
+  solved xs is right ys are k list fits h =
+      the_solution l N t values (length coded) _ _ _ covered codes forced_codes (subst (λ xs. Decides true (VerifiedCodes f xs t values)) is right) k list
+      (subst (λ ys. length ys < length list) are fits) (subst (λ ys. NonzerosOf ys k list) are h)

@@ -1,28 +1,19 @@
--- Running terms: codes times powers of their points, one power more at each sum.
-use Rattle.std.proofs.Common.{◌≡◌, ℕ, suc, ◌+◌, ◌-◌, ◌<◌, sym, ap, ◌∙◌, add-one, arith}
-use Rattle.field.specs.Field.{Ops, Laws, power}
+-- Sums of terms: codes times powers of their points.
+use Rattle.std.proofs.Common.{◌≡◌, ℕ, suc, ◌+◌, ◌-◌, ◌<◌, Bool, List, length, Decides, sym, ap, ◌∙◌, add-one, arith}
+use Rattle.std.proofs.lemmas.Bool.Decides.{Decides-like}
+use Rattle.std.proofs.lemmas.Grind.{same_number_lists}
+use Rattle.field.specs.Field.{Ops, power}
 use Rattle.field.specs.Sums.{total}
-use Rattle.field.proofs.Laws.{code_mod}
-use Rattle.solve.proofs.Vectors.{total_same}
+use Rattle.solve.specs.Polynomials.{at}
+use Rattle.solve.specs.Candidates.{HasSums}
 
 pub total_more : (f : Ops) (i : ℕ) (h : ℕ → ℕ) → f.plus (total f i (λ k. h (k - 1))) (h i) ≡ total f (i + 1) (λ k. h (k - 1))
 total_more f i h =
     ap (λ n. f.plus (total f i (λ k. h (k - 1))) (h n)) (let e : i ≡ suc i - 1 = omega arith in e) ∙ ap (λ n. total f n (λ k. h (k - 1))) (sym (add-one i))
 
-module _ {f : Ops} (l : Laws f) (m : ℕ) (x v : ℕ → ℕ) where
-  -- u i is v i times x i to the power j
-  abbrev pub Terms : ℕ → (ℕ → ℕ) → Type 0
-  Terms j u = (i : ℕ) → i < m → u i ≡ f.times (v i) (power f (x i) j)
-
-  pub terms_first : ((i : ℕ) → i < m → v i < f.size) → Terms 0 v
-  terms_first code i b = sym (l.times_one (v i) ∙ code_mod l (v i) (code i b))
-
-  one_more : (j : ℕ) (u : ℕ → ℕ) → Terms j u → (i : ℕ) → i < m → f.times (u i) (x i) ≡ f.times (v i) (power f (x i) (j + 1))
-  one_more j u h i b =
-      ap (λ z. f.times z (x i)) (h i b) ∙ l.times_assoc (v i) (power f (x i) j) (x i) ∙ ap (λ n. f.times (v i) (power f (x i) n)) (sym (add-one j))
-
-  pub terms_next : (j : ℕ) (u u' : ℕ → ℕ) → Terms j u → ((i : ℕ) → i < m → u' i ≡ f.times (u i) (x i)) → Terms (j + 1) u'
-  terms_next j u u' h moved i b = moved i b ∙ one_more j u h i b
-
-  pub terms_sum : (j : ℕ) (u : ℕ → ℕ) → Terms j u → total f m (λ k. f.times (u (k - 1)) (x (k - 1))) ≡ total f m (λ k. f.times (v (k - 1)) (power f (x (k - 1)) (j + 1)))
-  terms_sum j u h = total_same f m _ _ (λ k b. one_more j u h (k - 1) (omega arith))
+-- the values are the sums of the terms, if they are a list of these
+pub sums_decide : (f : Ops) (m : ℕ) (x v : ℕ → ℕ) (sums values : List ℕ) → length sums ≡ length values
+    → ((j : ℕ) → j < length values → at sums j ≡ total f m (λ k. f.times (v k) (power f (x k) (j + 1)))) → (r : Bool) → Decides r (sums ≡ values) → Decides r (HasSums f m x v values)
+sums_decide f m x v sums values long is r = Decides-like r
+    (λ e j b. ap (λ n. total f m (λ k. f.times (v k) (power f (x k) n))) (let w : j ≡ j - 1 + 1 = omega arith in w) ∙ sym (is (j - 1) (omega arith)) ∙ ap (λ xs. at xs (j - 1)) e)
+    (λ has. same_number_lists sums values long (λ j b. is j (omega arith) ∙ has (j + 1) (omega arith) ∙ ap (at values) (let w : j + 1 - 1 ≡ j = omega arith in w)))

@@ -1,65 +1,52 @@
 // Verifying codes at the candidates: their weight and their sums.
-ghost use Rattle.std.specs.Prelude.{◌≡◌, ℕ, ◌<◌, ◌≤◌, Decides};
-ghost use Rattle.field.specs.Sums.{entry, total};
+ghost use Rattle.std.specs.Prelude.{◌≡◌, ℕ, ◌+◌, ◌<◌, ◌≤◌, length, Decides};
+ghost use Rattle.field.specs.Field.{power};
+ghost use Rattle.field.specs.Sums.{entry};
 ghost use Rattle.algebra.specs.Vectors.{weight as weight-of};
 ghost use Rattle.solve.specs.Polynomials.{at};
-ghost use Rattle.solve.specs.Candidates.{HasSums, Verified};
+ghost use Rattle.solve.specs.Candidates.{points_of, candidates_of, codes_of, HasSums, VerifiedCodes};
 
-use crate::candidates::Candidates;
+use crate::entries::Coded;
 use field::Field;
 
 // Whether the codes at the candidates are a solution: at most `weight` are not 0, and the values are their sums.
-pub(crate) fn verified<F: Field>(
-    candidates: &Candidates,
-    codes: &[u32; 129],
-    values: &[u32],
-    weight: usize,
-) -> bool
-    requires { (i : ℕ) → i < candidates.now.count → at codes.now i < F.Field.ops.size }
-    ensures { Decides result (Verified F.Field.ops candidates.now.count (entry candidates.now.points) (entry codes.now) weight values.now) }
+pub(crate) fn verified<F: Field>(coded: &[Coded], values: &[u32], weight: usize) -> bool
+    requires codes { (i : ℕ) → i < length coded.now → at (codes_of coded.now) i < F.Field.ops.size }
+    requires few_values { length values.now ≤ 128 }
+    ensures { Decides result (VerifiedCodes F.Field.ops coded.now weight values.now) }
 {
-    weigh(codes, candidates.count) <= weight && has_sums::<F>(candidates, codes, values)
+    weigh(coded) <= weight && has_sums::<F>(coded, values)
 }
 
-// How many of the first `count` codes are not 0.
-fn weigh(codes: &[u32; 129], count: usize) -> usize
-    requires { count ≤ 128 }
-    ensures { result ≡ weight-of count (entry codes.now) }
+// How many of the codes are not 0.
+fn weigh(coded: &[Coded]) -> usize
+    ensures { result ≡ weight-of (length coded.now) (entry (codes_of coded.now)) }
 {
-    let mut nonzeros = 0;
-    for i in 0..count {
-        if codes[i] != 0 {
-            nonzeros += 1;
-        }
-    }
-    nonzeros
+    coded.iter().filter(|coded| coded.code != 0).count()
 }
 
-// Whether the codes at the candidates have the values for their sums. A term is a code times a power of its point.
-fn has_sums<F: Field>(candidates: &Candidates, codes: &[u32; 129], values: &[u32]) -> bool
-    requires { (i : ℕ) → i < candidates.now.count → at codes.now i < F.Field.ops.size }
-    ensures { Decides result (HasSums F.Field.ops candidates.now.count (entry candidates.now.points) (entry codes.now) values.now) }
+// Whether the codes at the candidates have the values for their sums.
+fn has_sums<F: Field>(coded: &[Coded], values: &[u32]) -> bool
+    requires codes { (i : ℕ) → i < length coded.now → at (codes_of coded.now) i < F.Field.ops.size }
+    requires few_values { length values.now ≤ 128 }
+    ensures { Decides result (HasSums F.Field.ops (length coded.now) (entry (points_of (candidates_of coded.now))) (entry (codes_of coded.now)) values.now) }
 {
-    let mut terms = *codes;
-    for j in 0..values.len() {
-        if next_sum::<F>(&mut terms, &candidates.points, candidates.count) != values[j] {
-            return false;
-        }
+    let mut room = [0; 128];
+    let sums = &mut room[..values.len()];
+    for term in coded {
+        add_terms::<F>(sums, term.candidate.point, term.code);
     }
-    true
+    *sums == *values
 }
 
-// Multiplies each term by its point, and adds them up.
-fn next_sum<F: Field>(terms: &mut [u32; 129], points: &[u32; 129], count: usize) -> u32
-    requires { count ≤ 128 }
-    ensures moved { (i : ℕ) → i < count → at terms.new i ≡ F.Field.ops.times (at terms.old i) (at points.now i) }
-    ensures sum { result ≡ total F.Field.ops count (λ k. F.Field.ops.times (entry terms.old k) (entry points.now k)) }
+// Adds the code's terms to the sums 1, 2, .. A term is a code times a power of its point.
+fn add_terms<F: Field>(sums: &mut [u32], point: u32, code: u32)
+    requires { code < F.Field.ops.size }
+    ensures { (j : ℕ) → j < length sums.old → at sums.new j ≡ F.Field.ops.plus (at sums.old j) (F.Field.ops.times code (power F.Field.ops point (j + 1))) }
 {
-    let mut sum = 0;
-    for i in 0..count {
-        let term = F::mul(terms[i], points[i]);
-        terms[i] = term;
-        sum = F::add(sum, term);
+    let mut term = code;
+    for sum in sums.iter_mut() {
+        term = F::mul(term, point);
+        *sum = F::add(*sum, term);
     }
-    sum
 }

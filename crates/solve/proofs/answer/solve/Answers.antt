@@ -1,35 +1,34 @@
-use Rattle.std.proofs.Common.{◌≤◌, refl, arith}
-use Rattle.solve.specs.Polynomials.{at}
+use Rattle.std.proofs.Common.{◌≤◌, refl, sym, subst, arith}
+use Rattle.solve.specs.Candidates.{CoveredBy}
 use Rattle.solve.proofs.Solutions.{unsolvable, solved}
 use Rattle.solve.proofs.answer.solve.Goals as goal
 
 pub returns-else-verified : goal.returns-else-verified
 returns-else-verified g c =
+    let f = g.F.Field.ops in
     let accepted = c.in_ok-accept.ensures in
-    let pages = c.args.pages in
-    let candidates = c.choose-candidates.result in
-    let cover = c.choose-candidates.ensures in
-    let limit : pages ≤ g.F.Field.ops.places = omega (arith, accepted.0.1) in (
+    let limit : c.args.pages ≤ f.places = omega (arith, accepted.0.1) in
+    let cover = subst (CoveredBy f c.args.pages c.args.weight c.args.values.now) (sym c.deref.ensures.0) c.choose-candidates.ensures in
+    let codes = c.interpolate-coded.ensures in (
       accepted,
       (
-        unsolvable g.met.F.Field.lawful pages c.args.weight c.args.values.now candidates.count (at candidates.pages) (at candidates.points) (at c.interpolate-codes.result)
-            cover c.interpolate-codes.ensures.codes (c.interpolate-codes.ensures.forced pages limit cover.rising)
-            c.if-verified.ensures,
+        unsolvable g.met.F.Field.lawful c.args.pages c.args.weight c.args.values.now c.deref.result.now cover c.interpolate-coded.result.items
+            codes.candidates codes.codes (codes.forced c.args.pages limit) c.deref-2.result.now c.deref-2.ensures.0 c.if-verified.ensures,
         refl {a = c.args.list.now},
       ),
     )
 
 pub returns-then-verified : goal.returns-then-verified
 returns-then-verified g c =
+    let f = g.F.Field.ops in
     let accepted = c.in_ok-accept.ensures in
-    let pages = c.args.pages in
-    let candidates = c.choose-candidates.result in
-    let cover = c.choose-candidates.ensures in
-    let limit : pages ≤ g.F.Field.ops.places = omega (arith, accepted.0.1) in
-    let few = candidates.few in
-    let long = c.list_nonzeros.array_long in (
+    let limit : c.args.pages ≤ f.places = omega (arith, accepted.0.1) in
+    let cover = subst (CoveredBy f c.args.pages c.args.weight c.args.values.now) (sym c.deref.ensures.0) c.choose-candidates.ensures in
+    let codes = c.interpolate-coded.ensures in
+    let long = c.list_nonzeros.array_long in
+    let few = c.deref-then-verified.ensures.1 in (
       accepted,
-      solved g.met.F.Field.lawful pages c.args.weight c.args.values.now candidates.count (at candidates.pages) (at candidates.points) (at c.interpolate-codes.result)
-          cover c.interpolate-codes.ensures.codes (c.interpolate-codes.ensures.forced pages limit cover.rising)
-          c.if-verified.ensures c.list_nonzeros.result c.list_nonzeros.new.list (omega arith) c.list_nonzeros.ensures,
+      solved g.met.F.Field.lawful c.args.pages c.args.weight c.args.values.now c.deref.result.now cover c.interpolate-coded.result.items
+          codes.candidates codes.codes (codes.forced c.args.pages limit) c.deref-2.result.now c.deref-2.ensures.0 c.if-verified.ensures
+          c.deref-then-verified.result.now c.deref-then-verified.ensures.0 c.list_nonzeros.result c.list_nonzeros.new.list (omega arith) c.list_nonzeros.ensures,
     )

@@ -1,40 +1,42 @@
-use Rattle.std.proofs.Common.{◌≡◌, ℕ, ◌+◌, ◌-◌, sym, ap, ◌∙◌, arith}
-use native.Mathlib.Decide.{ℕ_discrete}
+use Rattle.std.proofs.Common.{◌≡◌, ℕ, ◌+◌, ◌<◌, length, replicate, subst, sym, ◌∙◌, ap₂, arith, length-take-le, get_or-take}
+use Rattle.std.proofs.lemmas.List.{get_or-replicate, length-replicate}
+use Rattle.std.proofs.lemmas.Bool.Decides.{Decides-eqb}
+use Rattle.std.proofs.lemmas.Slice.Eq.{slice_eq-Decides}
 use Rattle.field.specs.Field.{power}
-use Rattle.field.specs.Sums.{entry, total}
+use Rattle.field.specs.Sums.{entry}
 use Rattle.solve.specs.Polynomials.{at}
-use Rattle.solve.proofs.Terms.{terms_first, terms_next, terms_sum}
+use Rattle.solve.specs.Candidates.{points_of, candidates_of, codes_of}
+use Rattle.solve.proofs.Terms.{total_more, sums_decide}
+use Rattle.solve.proofs.Coding.{code_is, point_is}
 use Rattle.solve.proofs.verify.has_sums.Goals as goal
 
-pub loop-j-init : goal.loop-j-init
-loop-j-init g c = (
-  c.told-codes,
-  terms_first g.met.F.Field.lawful c.args.candidates.now.count (at c.args.candidates.now.points) (at c.args.codes.now) c.requires,
-  λ k b. absurd (omega arith),
-)
+pub loop-term-init : goal.loop-term-init
+loop-term-init g c = record {
+  long = length-take-le (length c.args.values.now) (replicate 128 0) (let e = length-replicate {A = ℕ} 128 0 in omega arith);
+  added = λ j b. get_or-take (length c.args.values.now) (replicate 128 0) j 0 b ∙ get_or-replicate 128 j 0 0 (let few = c.requires.few_values in omega arith);
+}
 
-pub loop-j-preserved : goal.loop-j-preserved
-loop-j-preserved g c =
+pub add_terms-requires : goal.add_terms-requires
+add_terms-requires g c = subst (λ (y : ℕ). y < g.F.Field.ops.size) (code_is c.args.coded.now c.loop-term.term-index c.loop-term-test.true) (c.requires.codes _ c.loop-term-test.true)
+
+pub loop-term-preserved : goal.loop-term-preserved
+loop-term-preserved g c =
     let f = g.F.Field.ops in
-    let l = g.met.F.Field.lawful in
-    let m = c.args.candidates.now.count in
-    let points = c.args.candidates.now.points in
-    let codes = c.args.codes.now in
-    let j = c.loop-j.j in
-    let sum = c.next_sum.ensures.sum ∙ terms_sum l m (at points) (at codes) j (at c.loop-j.terms) c.loop-j.invariant.1 in (
-      c.next_sum.array_long,
-      terms_next l m (at points) (at codes) j (at c.loop-j.terms) (at c.next_sum.new.terms) c.loop-j.invariant.1 c.next_sum.ensures.moved,
-      λ k b. elim (ℕ_discrete k (j + 1)) [
-        | yes e ↦ ap (λ k. total f m (λ n. f.times (entry codes n) (power f (entry points n) k))) e ∙ sym sum ∙ c.if-next_sum-values.false ∙ ap (at c.args.values.now) (let w : j ≡ k - 1 = omega arith in w)
-        | no d ↦ c.loop-j.invariant.2 k (omega arith)
-      ],
-    )
+    let cs = c.args.coded.now in
+    let i = c.loop-term.term-index in
+    let long = c.loop-term.invariant.long in
+    record {
+      long = c.add_terms.auto.sums ∙ long;
+      added = λ j b.
+          c.add_terms.ensures j (omega arith)
+          ∙ ap₂ f.plus (c.loop-term.invariant.added j b)
+          (ap₂ (λ y z. f.times y (power f z (j + 1))) (sym (code_is cs i c.loop-term-test.true)) (sym (point_is cs i c.loop-term-test.true)))
+          ∙ total_more f i (λ k. f.times (at (codes_of cs) k) (power f (at (points_of (candidates_of cs)) k) (j + 1)));
+    }
 
-pub returns-then-next_sum-values : goal.returns-then-next_sum-values
-returns-then-next_sum-values g c =
-    let j = c.loop-j.j in
-    let sum = c.next_sum.ensures.sum
-    ∙ terms_sum g.met.F.Field.lawful c.args.candidates.now.count (at c.args.candidates.now.points) (at c.args.codes.now) j (at c.loop-j.terms) c.loop-j.invariant.1 in (
-      λ e. absurd (let z : ◌≡◌ {A = ℕ} 0 1 = cc in omega arith),
-      λ has. absurd (c.if-next_sum-values.true (sum ∙ has (j + 1) (omega arith) ∙ ap (at c.args.values.now) (let w : j + 1 - 1 ≡ j = omega arith in w))),
-    )
+pub returns : goal.returns
+returns g c =
+    let cs = c.args.coded.now in
+    let e : length cs ≡ c.loop-term.term-index = omega arith in
+    rw e (sums_decide g.F.Field.ops c.loop-term.term-index (entry (points_of (candidates_of cs))) (entry (codes_of cs)) c.loop-term.sums c.args.values.now
+    c.loop-term.invariant.long c.loop-term.invariant.added c.eq.result (slice_eq-Decides Decides-eqb _ _ c.eq.result c.eq.ensures))
