@@ -1,19 +1,59 @@
--- Sums of terms: codes times powers of their points.
-use Rattle.std.proofs.Common.{◌≡◌, ℕ, suc, ◌+◌, ◌-◌, ◌<◌, Bool, List, length, Decides, sym, ap, ◌∙◌, add-one, arith}
-use Rattle.std.proofs.lemmas.Bool.Decides.{Decides-like}
-use Rattle.std.proofs.lemmas.Grind.{same_number_lists}
-use Rattle.field.specs.Field.{Ops, power}
-use Rattle.field.specs.Sums.{total}
+-- Terms: coded candidates whose codes are multiplied by their points, once more at each sum.
+use Rattle.std.proofs.Common.{◌≡◌, ℕ, zero, suc, ◌+◌, ◌-◌, ◌<◌, List, [], ◌∷◌, map, length, get_or, sym, refl, ap, ◌∙◌, ap₂, add-one, arith}
+use Rattle.std.proofs.lemmas.List.{get_or-map, length-map}
+use Rattle.field.specs.Field.{Ops, Laws, power}
+use Rattle.field.specs.Sums.{entry, total}
+use Rattle.field.proofs.Laws.{one_times, times_mod_right}
+use Rattle.solve.specs.declared.entries.Coded.{Coded}
 use Rattle.solve.specs.Polynomials.{at}
-use Rattle.solve.specs.Candidates.{HasSums}
+use Rattle.solve.specs.Candidates.{points_of, candidates_of, codes_of, raised}
+use Rattle.solve.proofs.Coding.{none, code_is, point_is}
+use Rattle.solve.proofs.Vectors.{total_same}
 
 pub total_more : (f : Ops) (i : ℕ) (h : ℕ → ℕ) → f.plus (total f i (λ k. h (k - 1))) (h i) ≡ total f (i + 1) (λ k. h (k - 1))
 total_more f i h =
     ap (λ n. f.plus (total f i (λ k. h (k - 1))) (h n)) (let e : i ≡ suc i - 1 = omega arith in e) ∙ ap (λ n. total f n (λ k. h (k - 1))) (sym (add-one i))
 
--- the values are the sums of the terms, if they are a list of these
-pub sums_decide : (f : Ops) (m : ℕ) (x v : ℕ → ℕ) (sums values : List ℕ) → length sums ≡ length values
-    → ((j : ℕ) → j < length values → at sums j ≡ total f m (λ k. f.times (v k) (power f (x k) (j + 1)))) → (r : Bool) → Decides r (sums ≡ values) → Decides r (HasSums f m x v values)
-sums_decide f m x v sums values long is r = Decides-like r
-    (λ e j b. ap (λ n. total f m (λ k. f.times (v k) (power f (x k) n))) (let w : j ≡ j - 1 + 1 = omega arith in w) ∙ sym (is (j - 1) (omega arith)) ∙ ap (λ xs. at xs (j - 1)) e)
-    (λ has. same_number_lists sums values long (λ j b. is j (omega arith) ∙ has (j + 1) (omega arith) ∙ ap (at values) (let w : j + 1 - 1 ≡ j = omega arith in w)))
+-- a term after j turns
+abbrev pub after : Ops → ℕ → Coded → Coded
+after f zero c = c
+after f (suc j) c = raised f (after f j c)
+
+pub after_more : (f : Ops) (j : ℕ) (cs : List Coded) → map (raised f) (map (after f j) cs) ≡ map (after f (suc j)) cs
+after_more f j [] = refl
+after_more f j (c ∷ cs) = ap (λ rest. raised f (after f j c) ∷ rest) (after_more f j cs)
+
+pub after_none : (f : Ops) (cs : List Coded) → map (after f 0) cs ≡ cs
+after_none f [] = refl
+after_none f (c ∷ cs) = ap (λ rest. c ∷ rest) (after_none f cs)
+
+same_candidate : (f : Ops) (j : ℕ) (c : Coded) → (after f j c).candidate ≡ c.candidate
+same_candidate f zero c = refl
+same_candidate f (suc j) c = same_candidate f j c
+
+module _ {f : Ops} (l : Laws f) where
+  code_after : (j : ℕ) (c : Coded) → (after f (suc j) c).code ≡ f.times c.code (power f c.candidate.point (suc j))
+  code_after zero c = sym (ap (f.times c.code) (one_times l c.candidate.point) ∙ times_mod_right l c.code c.candidate.point)
+  code_after (suc j) c =
+      ap₂ f.times (code_after j c) (ap (λ d. d.point) (same_candidate f (suc j) c))
+      ∙ l.times_assoc c.code (power f c.candidate.point (suc j)) c.candidate.point
+
+  -- the terms add up to the sum
+  pub sum_after : (cs : List Coded) (j : ℕ) → total f (length cs) (entry (codes_of (map (after f (suc j)) cs)))
+      ≡ total f (length cs) (λ k. f.times (entry (codes_of cs) k) (power f (entry (points_of (candidates_of cs)) k) (suc j)))
+  sum_after cs j = total_same f (length cs) _ _ (λ k b.
+      code_is (map (after f (suc j)) cs) (k - 1) (simp length-map (omega arith))
+      ∙ ap (λ c. c.code) (get_or-map (after f (suc j)) cs (k - 1) none none (omega arith))
+      ∙ code_after j (get_or cs (k - 1) none)
+      ∙ ap₂ (λ y z. f.times y (power f z (suc j))) (sym (code_is cs (k - 1) (omega arith))) (sym (point_is cs (k - 1) (omega arith))))
+
+  -- one turn: the terms are multiplied, and x is their sum
+  pub turn : (cs old new : List Coded) (j x : ℕ) → old ≡ map (after f j) cs → new ≡ map (raised f) old → x ≡ total f (length old) (entry (codes_of new))
+      → (new ≡ map (after f (j + 1)) cs) × (x ≡ total f (length cs) (λ k. f.times (entry (codes_of cs) k) (power f (entry (points_of (candidates_of cs)) k) (j + 1))))
+  turn cs old new j x is made sum =
+      let turned : new ≡ map (after f (suc j)) cs = made ∙ ap (map (raised f)) is ∙ after_more f j cs in
+      let more = sym (add-one j) in (
+        turned ∙ ap (λ n. map (after f n) cs) more,
+        sum ∙ ap₂ (λ n xs. total f n (entry (codes_of xs))) (ap length is ∙ length-map cs (after f j)) turned ∙ sum_after cs j
+        ∙ ap (λ n. total f (length cs) (λ k. f.times (entry (codes_of cs) k) (power f (entry (points_of (candidates_of cs)) k) n))) more,
+      )

@@ -22,6 +22,10 @@ candidates_of cs = map (λ c. c.candidate) cs
 abbrev pub codes_of : List Coded → List ℕ
 codes_of cs = map (λ c. c.code) cs
 
+-- its code times its point
+abbrev pub raised : Ops → Coded → Coded
+raised f c = record { candidate = c.candidate; code = f.times c.code c.candidate.point }
+
 -- g 0 .. g (m - 1) are rising pages of 1 .. N, and x holds their points
 pub record Rising (f : Ops) (N m : ℕ) (g x : ℕ → ℕ) : Type 0 where
   pub rise : (i j : ℕ) → i < j → j < m → g i < g j
