@@ -1,6 +1,6 @@
 -- Choosing the pages that are roots, one by one.
 use Rattle.std.proofs.Common.{◌≡◌, ℕ, ◌+◌, ◌<◌, ◌≤◌, List, [], ◌∷◌, ◌++◌, map, length, zero, suc, sym, refl, ap, ◌∙◌, subst, arith, length-append}
-use native.Mathlib.Decide.{ℕ_discrete}
+use Rattle.std.proofs.Math.Decide.{ℕ_discrete}
 use Rattle.field.specs.Field.{Ops, power}
 use Rattle.solve.specs.declared.candidates.Candidate.{Candidate}
 use Rattle.solve.specs.Polynomials.{at}
@@ -38,7 +38,7 @@ module _ (f : Ops) (q : ℕ → ℕ) where
     ];
   }
 
-  pub at_most : (N k m : ℕ) (g x : ℕ → ℕ) → FewRoots f q N → Roots f q k m g x → k ≤ N → m ≤ 128
+  at_most : (N k m : ℕ) (g x : ℕ → ℕ) → FewRoots f q N → Roots f q k m g x → k ≤ N → m ≤ 128
   at_most N k m g x few h le =
       few m g x (record { rise = h.rising.rise; page = λ i a. let b = h.rising.page i a in (b.0, omega arith); point = h.rising.point }) h.root
 

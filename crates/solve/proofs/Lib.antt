@@ -7,12 +7,10 @@ pub mod Choosing
 pub mod Recovery
 pub mod Covering
 pub mod Products
-pub mod Turns
 pub mod Coding
 pub mod Vectors
 pub mod Terms
 pub mod Weighing
 pub mod Listings
 pub mod Solutions
-pub mod Lookups
 pub mod Values

@@ -1,7 +1,7 @@
 -- Listing the codes that are not 0, one by one; and what a list gives each page.
 use Rattle.std.proofs.Common.{◌≡◌, ℕ, zero, suc, ◌+◌, ◌<◌, Bool, true, false, cond, eqb, ◌≢◌, List, [], ◌∷◌, get_or, sym, refl, ap, ◌∙◌, arith, eqb-true}
-use native.Mathlib.Decide.{ℕ_discrete}
-use borrow.Author.Tests.{eqb-false}
+use Rattle.std.proofs.Math.Decide.{ℕ_discrete}
+use Rattle.std.proofs.lemmas.Bool.{eqb-false}
 use Rattle.solve.specs.declared.Entry.{Entry}
 use Rattle.solve.specs.Answer.{blank, code_at}
 use Rattle.solve.specs.Listing.{Nonzeros}

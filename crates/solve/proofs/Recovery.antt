@@ -1,6 +1,6 @@
 -- What its first sums tell of a vector: its pages are roots of a locator, and its entries are those that are interpolated.
 use Rattle.std.proofs.Common.{◌≡◌, ℕ, zero, suc, ◌+◌, ◌-◌, ◌<◌, ◌≤◌, ◌≢◌, List, length, sym, ap, ◌∙◌, subst, ap₂, arith}
-use native.Mathlib.Decide.{ℕ_discrete, dec_le}
+use Rattle.std.proofs.Math.Decide.{ℕ_discrete, dec_le}
 use Rattle.field.specs.Field.{Ops, Laws, Spread, power}
 use Rattle.field.specs.Sums.{entry, power_sum}
 use Rattle.field.proofs.Laws.{code_mod, one_code, zero_plus, times_zero}
@@ -17,7 +17,7 @@ use Rattle.solve.proofs.Words.{E, list, list_length, list_monic, list_quotient, 
 
 module _ {f : Ops} (l : Laws f) (spread : Spread f) (N : ℕ) (le : N ≤ f.places) where
   -- rising pages have different points
-  pub points_apart : (m : ℕ) (g x : ℕ → ℕ) → Rising f N m g x → (i j : ℕ) → i < j → j < m → ¬ (el l (x i) ≡ el l (x j))
+  points_apart : (m : ℕ) (g x : ℕ → ℕ) → Rising f N m g x → (i j : ℕ) → i < j → j < m → ¬ (el l (x i) ≡ el l (x j))
   points_apart m g x r i j ij jm z =
       let rise = r.rise i j ij jm in
       let same = (points l spread N le).apart (g i) (g j) (r.page i (omega arith)) (r.page j jm)

@@ -1,6 +1,6 @@
 -- The search for a locator: what holds at each turn, and that each turn keeps it.
 use Rattle.std.proofs.Common.{◌≡◌, ℕ, suc, ◌+◌, ◌-◌, ◌<◌, ◌≤◌, List, length, take, length-take-le, get_or-take, add-one, sym, refl, ap, ◌∙◌, subst, ap₂, arith}
-use native.Mathlib.Decide.{ℕ_discrete}
+use Rattle.std.proofs.Math.Decide.{ℕ_discrete}
 use Rattle.field.specs.Field.{Ops, Laws}
 use Rattle.field.proofs.Laws.{code_mod, one_code}
 use Rattle.solve.specs.Polynomials.{at, window, Locates}

@@ -19,7 +19,7 @@ abbrev pub after : Ops → ℕ → Coded → Coded
 after f zero c = c
 after f (suc j) c = raised f (after f j c)
 
-pub after_more : (f : Ops) (j : ℕ) (cs : List Coded) → map (raised f) (map (after f j) cs) ≡ map (after f (suc j)) cs
+after_more : (f : Ops) (j : ℕ) (cs : List Coded) → map (raised f) (map (after f j) cs) ≡ map (after f (suc j)) cs
 after_more f j [] = refl
 after_more f j (c ∷ cs) = ap (λ rest. raised f (after f j c) ∷ rest) (after_more f j cs)
 
@@ -39,7 +39,7 @@ module _ {f : Ops} (l : Laws f) where
       ∙ l.times_assoc c.code (power f c.candidate.point (suc j)) c.candidate.point
 
   -- the terms add up to the sum
-  pub sum_after : (cs : List Coded) (j : ℕ) → total f (length cs) (entry (codes_of (map (after f (suc j)) cs)))
+  sum_after : (cs : List Coded) (j : ℕ) → total f (length cs) (entry (codes_of (map (after f (suc j)) cs)))
       ≡ total f (length cs) (λ k. f.times (entry (codes_of cs) k) (power f (entry (points_of (candidates_of cs)) k) (suc j)))
   sum_after cs j = total_same f (length cs) _ _ (λ k b.
       code_is (map (after f (suc j)) cs) (k - 1) (simp length-map (omega arith))

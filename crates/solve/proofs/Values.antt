@@ -1,6 +1,6 @@
 -- Differences by lists of values: what solves one, and how much it weighs.
 use Rattle.std.proofs.Common.{◌≡◌, ℕ, zero, suc, ◌+◌, ◌-◌, ◌<◌, ◌≤◌, List, length, get_or, take, sym, refl, ap, ◌∙◌, subst, inl, inr, arith, length-take-le, get_or-take}
-use native.Mathlib.Decide.{dec_le}
+use Rattle.std.proofs.Math.Decide.{dec_le}
 use Rattle.std.proofs.lemmas.List.{get_or_past}
 use Rattle.field.specs.Field.{Ops, Laws, page_limit, power}
 use Rattle.field.specs.Sums.{entry}

@@ -1,8 +1,8 @@
 -- The vector that has given codes on given pages: its entries, its weight and its sums.
 use Rattle.std.proofs.Common.{◌≡◌, ℕ, zero, suc, ◌-◌, ◌*◌, ◌<◌, Bool, true, false, cond, eqb, ◌≢◌, ◌⊎◌, sym, refl, ap, ◌∙◌, ap₂, inl, inr, mul_comm, arith, eqb-true}
-use native.Mathlib.Nat.{zero-mod}
-use native.Mathlib.Decide.{ℕ_discrete}
-use borrow.Author.Tests.{eqb-false}
+use Rattle.std.proofs.Math.Nat.{zero-mod}
+use Rattle.std.proofs.Math.Decide.{ℕ_discrete}
+use Rattle.std.proofs.lemmas.Bool.{eqb-false}
 use Rattle.field.specs.Field.{Ops, Laws, power}
 use Rattle.field.specs.Sums.{total, power_sum}
 use Rattle.field.proofs.Laws.{code_mod, times_zero, power_mul, total_code}

@@ -1,6 +1,6 @@
 -- How many codes are not 0, counted from the first on.
 use Rattle.std.proofs.Common.{◌≡◌, ℕ, zero, suc, ◌+◌, ◌-◌, ◌≤◌, Bool, not, eqb, List, take, length, get_or, count_by, sym, refl, ap, ◌∙◌, add-one, arith, eq-eqb, ne_eqb}
-use native.Mathlib.Decide.{ℕ_discrete}
+use Rattle.std.proofs.Math.Decide.{ℕ_discrete}
 use Rattle.std.proofs.lemmas.List.Sums.{count_by_more_yes, count_by_more_no}
 use Rattle.field.specs.Sums.{entry}
 use Rattle.algebra.specs.Vectors.{counted, weight}

@@ -1,6 +1,6 @@
 -- Windows of words: zeros at either end, polynomials moved up, and differences.
 use Rattle.std.proofs.Common.{◌≡◌, ℕ, zero, suc, ◌+◌, ◌-◌, ◌<◌, ◌≤◌, Bool, true, false, cond, ltb, List, length, take, drop, add-one, length-take-le, get_or-take, get_or-drop, sym, refl, ap, ◌∙◌, ap₂, arith, ltb-false, ltb-true}
-use native.Mathlib.Nat.{zero-mod}
+use Rattle.std.proofs.Math.Nat.{zero-mod}
 use Rattle.field.specs.Field.{Ops, Laws}
 use Rattle.field.proofs.Laws.{code_mod, zero_plus, times_zero, plus_cancel}
 use Rattle.algebra.proofs.Ring.{ring, nought, ◌⊞◌, ◌⊟◌, ◌⊠◌}
@@ -8,7 +8,7 @@ use Rattle.algebra.proofs.Codes.{codes, el, el_plus, el_minus, el_times, el_zero
 use Rattle.solve.specs.Polynomials.{at, window, shifted}
 use Rattle.solve.proofs.Words.{window_code}
 
-pub shifted_low : (a : ℕ) (p : ℕ → ℕ) (i : ℕ) → i < a → shifted a p i ≡ 0
+shifted_low : (a : ℕ) (p : ℕ → ℕ) (i : ℕ) → i < a → shifted a p i ≡ 0
 shifted_low a p i h = go (ltb i a) refl
   where
     go : (b : Bool) → ltb i a ≡ b → cond b 0 (p (i - a)) ≡ 0

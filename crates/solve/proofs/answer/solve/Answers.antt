@@ -1,5 +1,7 @@
-use Rattle.std.proofs.Common.{◌≤◌, refl, sym, subst, arith}
-use Rattle.solve.specs.Candidates.{CoveredBy}
+use Rattle.std.proofs.Common.{ℕ, ◌<◌, ◌≤◌, length, refl, sym, ap, ◌∙◌, subst, arith}
+use Rattle.solve.specs.Polynomials.{at}
+use Rattle.solve.specs.Candidates.{pages_of, candidates_of, CoveredBy}
+use Rattle.solve.proofs.Coding.{along}
 use Rattle.solve.proofs.Solutions.{unsolvable, solved}
 use Rattle.solve.proofs.answer.solve.Goals as goal
 
@@ -32,3 +34,8 @@ returns-then-verified g c =
           codes.candidates codes.codes (codes.forced c.args.pages limit) c.deref-2.result.now c.deref-2.ensures.0 c.if-verified.ensures
           c.deref-then-verified.result.now c.deref-then-verified.ensures.0 c.list_nonzeros.result c.list_nonzeros.new.list (omega arith) c.list_nonzeros.ensures,
     )
+
+pub list_nonzeros-requires-clause-rising : goal.list_nonzeros-requires-clause-rising
+list_nonzeros-requires-clause-rising g c =
+    let same = ap candidates_of c.deref-then-verified.ensures.0 ∙ c.interpolate-coded.ensures.candidates ∙ c.deref.ensures.0 in
+    along c.deref-then-verified.result.now c.choose-candidates.result.items same (λ m cs. (i j : ℕ) → i < j → j < m → at (pages_of cs) i < at (pages_of cs) j) c.choose-candidates.ensures.rising.rise

@@ -1,5 +1,5 @@
 use Rattle.std.proofs.Common.{◌≡◌, ℕ, ◌+◌, ◌-◌, set, replicate, length, take, sym, refl, ap, ◌∙◌, subst, arith}
-use Rattle.std.proofs.Math.ListN.{get_or-replicate}
+use Rattle.std.proofs.lemmas.List.{get_or-replicate}
 use Rattle.field.specs.Field.{Ops}
 use Rattle.solve.specs.Polynomials.{at, Locates}
 use Rattle.solve.proofs.Windows.{window_cut}
