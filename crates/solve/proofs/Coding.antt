@@ -1,5 +1,5 @@
 -- Coded candidates: what stands at a place; and codes that the points give.
-use Rattle.std.proofs.Common.{◌≡◌, ℕ, zero, suc, ◌<◌, List, [], ◌∷◌, map, length, get_or, sym, refl, ap, ◌∙◌, subst, arith}
+use Rattle.std.proofs.Common.{◌≡◌, ℕ, zero, suc, ◌<◌, List, [], ◌∷◌, map, length, get_or, refl, ap, ◌∙◌, arith}
 use Rattle.std.proofs.lemmas.List.{get_or-map, length-map}
 use Rattle.solve.specs.declared.candidates.Candidate.{Candidate}
 use Rattle.solve.specs.declared.entries.Coded.{Coded}
@@ -8,6 +8,9 @@ use Rattle.solve.specs.Candidates.{pages_of, points_of, candidates_of, codes_of}
 
 abbrev pub none : Coded
 none = record { candidate = record { page = 0; point = 0 }; code = 0 }
+
+pub length_candidates : (cs : List Coded) → length (candidates_of cs) ≡ length cs
+length_candidates cs = length-map cs (λ c. c.candidate)
 
 module _ (cs : List Coded) (i : ℕ) (b : i < length cs) where
   pub code_is : at (codes_of cs) i ≡ (get_or cs i none).code
@@ -21,10 +24,6 @@ module _ (cs : List Coded) (i : ℕ) (b : i < length cs) where
 
   pub point_is : at (points_of (candidates_of cs)) i ≡ (get_or cs i none).candidate.point
   point_is = get_or-map (λ c. c.point) (candidates_of cs) i none.candidate 0 (simp length-map b) ∙ ap (λ c. c.point) candidate_is
-
--- what holds of some candidates holds of those that are coded
-pub along : (coded : List Coded) (cs : List Candidate) → candidates_of coded ≡ cs → (P : ℕ → List Candidate → Type 0) → P (length cs) cs → P (length coded) (candidates_of coded)
-along coded cs e P h = subst (λ n. P n (candidates_of coded)) (length-map coded (λ c. c.candidate)) (subst (λ ds. P (length ds) ds) (sym e) h)
 
 module _ (w : ℕ → ℕ) where
   abbrev pub coded_by : Candidate → Coded

@@ -1,5 +1,5 @@
 -- The codes that are forced at the candidates are the one solution, or there is none.
-use Rattle.std.proofs.Common.{◌≡◌, ℕ, ◌-◌, ◌*◌, ◌<◌, ◌≤◌, true, false, List, length, get_or, Decides, sym, refl, ap, ◌∙◌, subst, inl, inr, arith}
+use Rattle.std.proofs.Common.{◌≡◌, ℕ, ◌*◌, ◌<◌, ◌≤◌, Bool, true, false, List, length, get_or, Decides, sym, refl, ap, ◌∙◌, subst, inl, inr, arith}
 use Rattle.std.proofs.Math.Decide.{ℕ_discrete, dec_le}
 use Rattle.std.proofs.lemmas.Bool.Decides.{not_from_Decides}
 use Rattle.field.specs.Field.{Ops, Laws, power}
@@ -12,9 +12,8 @@ use Rattle.solve.specs.Answer.{blank, code_at, Listed, Solved}
 use Rattle.solve.specs.declared.candidates.Candidate.{Candidate}
 use Rattle.solve.specs.declared.entries.Coded.{Coded}
 use Rattle.solve.specs.Polynomials.{at}
-use Rattle.solve.specs.Candidates.{pages_of, points_of, candidates_of, codes_of, Rising, RisingIn, Covers, CoveredBy, Forced, ForcedAt, Verified, VerifiedCodes}
+use Rattle.solve.specs.Candidates.{pages_of, points_of, candidates_of, codes_of, Rising, Covers, Forced, Verified}
 use Rattle.solve.specs.Listing.{Nonzeros, NonzerosOf}
-use Rattle.solve.proofs.Coding.{along}
 use Rattle.solve.proofs.Vectors.{vector, vector_off, vector_at, vector_weight, vector_sum, among, total_same}
 use Rattle.solve.proofs.Listings.{code_at_none, code_at_first}
 
@@ -74,8 +73,20 @@ module _ (f : Ops) (N m : ℕ) (g x v : ℕ → ℕ) (r : Rising f N m g x) (k :
     rest = h.rest;
   }
 
-module _ {f : Ops} (l : Laws f) (N t : ℕ) (values : List ℕ) (m : ℕ) (g x v : ℕ → ℕ) (cover : Covers f N t values m g x)
-    (small : (i : ℕ) → i < m → v i < f.size) (forced : Forced f N m g values v) where
+module _ {f : Ops} (l : Laws f) (N t : ℕ) (values : List ℕ) (cs : List Candidate) (cover : Covers f N t values cs) (coded : List Coded) (same : candidates_of coded ≡ cs)
+    (small : (i : ℕ) → i < length cs → at (codes_of coded) i < f.size) (forced : Forced f N cs values (codes_of coded)) where
+  abbrev m : ℕ
+  m = length cs
+
+  abbrev g : ℕ → ℕ
+  g = at (pages_of cs)
+
+  abbrev x : ℕ → ℕ
+  x = at (points_of cs)
+
+  abbrev v : ℕ → ℕ
+  v = at (codes_of coded)
+
   only : (e : ℕ → ℕ) → Solution f N t values e → (n : ℕ) → Page N n → e n ≡ vector m g v n
   only e sol n b = elim (among m g n) [
     | inl s ↦
@@ -87,7 +98,7 @@ module _ {f : Ops} (l : Laws f) (N t : ℕ) (values : List ℕ) (m : ℕ) (g x v
     ]
   ]
 
-  solves : Verified f m (λ k. x (k - 1)) (λ k. v (k - 1)) t values → Solution f N t values (vector m g v)
+  solves : Verified f cs (codes_of coded) t values → Solution f N t values (vector m g v)
   solves right = record {
     codes = λ n b. elim (among m g n) [
       | inl s ↦ subst (λ (y : ℕ). y < f.size) (sym (ap (vector m g v) (sym s.2) ∙ vector_at m g v cover.rising.rise s.0 s.1)) (small s.0 s.1)
@@ -97,38 +108,25 @@ module _ {f : Ops} (l : Laws f) (N t : ℕ) (values : List ℕ) (m : ℕ) (g x v
     sums = λ j b. sym (vector_sum l N g x v j m cover.rising) ∙ right.1 j b;
   }
 
+  -- of codes that these are
+  by_candidates : (r : Bool) (xs : List Coded) → xs ≡ coded → Decides r (Verified f (candidates_of xs) (codes_of xs) t values) → Decides r (Verified f cs (codes_of coded) t values)
+  by_candidates r xs is h =
+      subst (λ ds. Decides r (Verified f ds (codes_of coded) t values)) same (subst (λ ys. Decides r (Verified f (candidates_of ys) (codes_of ys) t values)) is h)
+
   -- there is no solution if these codes are too many or have other sums
-  no_solution : Decides false (Verified f m (λ k. x (k - 1)) (λ k. v (k - 1)) t values) → (e : ℕ → ℕ) → Solution f N t values e → ⊥
-  no_solution wrong e sol = not_from_Decides false wrong refl (
+  pub unsolvable : (xs : List Coded) → xs ≡ coded → Decides false (Verified f (candidates_of xs) (codes_of xs) t values) → (e : ℕ → ℕ) → Solution f N t values e → ⊥
+  unsolvable xs is wrong e sol = not_from_Decides false (by_candidates false xs is wrong) refl (
     omega (arith, weight_same N e (vector m g v) (only e sol), vector_weight f N m g x v cover.rising, sol.light),
     λ j b. vector_sum l N g x v j m cover.rising
         ∙ total_same f N _ _ (λ n c. ap (λ y. f.times y (power f f.alpha (j * n))) (sym (only e sol n c))) ∙ sol.sums j b,
   )
 
-  the_solution : Decides true (Verified f m (λ k. x (k - 1)) (λ k. v (k - 1)) t values) → (k : ℕ) (list : List Entry) → m < length list → Nonzeros m g v k list → Solved f N t values k list
-  the_solution right k list fits h = record {
-    listed = listed f N m g x v cover.rising k list h fits;
-    solves = same_solution f N t values (vector m g v) (code_at list) (listed_is f N m g x v cover.rising k list h) (solves (right.0 refl));
-    only = λ e sol n b. only e sol n b ∙ listed_is f N m g x v cover.rising k list h n b;
-  }
-
--- the same of coded candidates
-module _ {f : Ops} (l : Laws f) (N t : ℕ) (values : List ℕ) (cs : List Candidate) (cover : CoveredBy f N t values cs) (coded : List Coded) (same : candidates_of coded ≡ cs)
-    (small : (i : ℕ) → i < length cs → at (codes_of coded) i < f.size) (forced : RisingIn f N cs → ForcedAt f N cs values (codes_of coded)) where
-  covered : Covers f N t values (length coded) (at (pages_of (candidates_of coded))) (at (points_of (candidates_of coded)))
-  covered = along coded cs same (λ m cs. Covers f N t values m (at (pages_of cs)) (at (points_of cs))) cover
-
-  codes : (i : ℕ) → i < length coded → at (codes_of coded) i < f.size
-  codes = along coded cs same (λ m _. (i : ℕ) → i < m → at (codes_of coded) i < f.size) small
-
-  forced_codes : Forced f N (length coded) (at (pages_of (candidates_of coded))) values (at (codes_of coded))
-  forced_codes = along coded cs same (λ m cs. Forced f N m (at (pages_of cs)) values (at (codes_of coded))) (forced cover.rising)
-
-  pub unsolvable : (xs : List Coded) → xs ≡ coded → Decides false (VerifiedCodes f xs t values) → (e : ℕ → ℕ) → Solution f N t values e → ⊥
-  unsolvable xs is wrong = no_solution l N t values (length coded) _ _ _ covered codes forced_codes (subst (λ xs. Decides false (VerifiedCodes f xs t values)) is wrong)
-
-  pub solved : (xs : List Coded) → xs ≡ coded → Decides true (VerifiedCodes f xs t values) → (ys : List Coded) → ys ≡ coded → (k : ℕ) (list : List Entry) → length ys < length list → NonzerosOf ys k list
-      → Solved f N t values k list
-  solved xs is right ys are k list fits h =
-      the_solution l N t values (length coded) _ _ _ covered codes forced_codes (subst (λ xs. Decides true (VerifiedCodes f xs t values)) is right) k list
-      (subst (λ ys. length ys < length list) are fits) (subst (λ ys. NonzerosOf ys k list) are h)
+  pub solved : (xs : List Coded) → xs ≡ coded → Decides true (Verified f (candidates_of xs) (codes_of xs) t values) → (ys : List Coded) → ys ≡ coded
+      → (k : ℕ) (list : List Entry) → m < length list → NonzerosOf (candidates_of ys) (codes_of ys) k list → Solved f N t values k list
+  solved xs is right ys are k list fits found =
+      let h : Nonzeros m g v k list = subst (λ ds. NonzerosOf ds (codes_of coded) k list) same (subst (λ ys. NonzerosOf (candidates_of ys) (codes_of ys) k list) are found) in
+      record {
+        listed = listed f N m g x v cover.rising k list h fits;
+        solves = same_solution f N t values (vector m g v) (code_at list) (listed_is f N m g x v cover.rising k list h) (solves ((by_candidates true xs is right).0 refl));
+        only = λ e sol n b. only e sol n b ∙ listed_is f N m g x v cover.rising k list h n b;
+      }

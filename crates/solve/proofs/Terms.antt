@@ -5,9 +5,8 @@ use Rattle.field.specs.Field.{Ops, Laws, power}
 use Rattle.field.specs.Sums.{entry, total}
 use Rattle.field.proofs.Laws.{one_times, times_mod_right}
 use Rattle.solve.specs.declared.entries.Coded.{Coded}
-use Rattle.solve.specs.Polynomials.{at}
-use Rattle.solve.specs.Candidates.{points_of, candidates_of, codes_of, raised}
-use Rattle.solve.proofs.Coding.{none, code_is, point_is}
+use Rattle.solve.specs.Candidates.{candidates_of, codes_of, raised, sum_at}
+use Rattle.solve.proofs.Coding.{none, length_candidates, code_is, point_is}
 use Rattle.solve.proofs.Vectors.{total_same}
 
 pub total_more : (f : Ops) (i : ℕ) (h : ℕ → ℕ) → f.plus (total f i (λ k. h (k - 1))) (h i) ≡ total f (i + 1) (λ k. h (k - 1))
@@ -39,21 +38,20 @@ module _ {f : Ops} (l : Laws f) where
       ∙ l.times_assoc c.code (power f c.candidate.point (suc j)) c.candidate.point
 
   -- the terms add up to the sum
-  sum_after : (cs : List Coded) (j : ℕ) → total f (length cs) (entry (codes_of (map (after f (suc j)) cs)))
-      ≡ total f (length cs) (λ k. f.times (entry (codes_of cs) k) (power f (entry (points_of (candidates_of cs)) k) (suc j)))
-  sum_after cs j = total_same f (length cs) _ _ (λ k b.
-      code_is (map (after f (suc j)) cs) (k - 1) (simp length-map (omega arith))
-      ∙ ap (λ c. c.code) (get_or-map (after f (suc j)) cs (k - 1) none none (omega arith))
-      ∙ code_after j (get_or cs (k - 1) none)
-      ∙ ap₂ (λ y z. f.times y (power f z (suc j))) (sym (code_is cs (k - 1) (omega arith))) (sym (point_is cs (k - 1) (omega arith))))
+  sum_after : (cs : List Coded) (j : ℕ) → total f (length (candidates_of cs)) (entry (codes_of (map (after f (suc j)) cs)))
+      ≡ sum_at f (candidates_of cs) (codes_of cs) (suc j)
+  sum_after cs j = total_same f (length (candidates_of cs)) _ _ (λ k b.
+      let i = k - 1 in
+      let within : i < length cs = omega (arith, length_candidates cs) in
+      code_is (map (after f (suc j)) cs) i (simp length-map within)
+      ∙ ap (λ c. c.code) (get_or-map (after f (suc j)) cs i none none within)
+      ∙ code_after j (get_or cs i none)
+      ∙ ap₂ (λ y z. f.times y (power f z (suc j))) (sym (code_is cs i within)) (sym (point_is cs i within)))
 
   -- one turn: the terms are multiplied, and x is their sum
   pub turn : (cs old new : List Coded) (j x : ℕ) → old ≡ map (after f j) cs → new ≡ map (raised f) old → x ≡ total f (length old) (entry (codes_of new))
-      → (new ≡ map (after f (j + 1)) cs) × (x ≡ total f (length cs) (λ k. f.times (entry (codes_of cs) k) (power f (entry (points_of (candidates_of cs)) k) (j + 1))))
+      → (new ≡ map (after f (j + 1)) cs) × (x ≡ sum_at f (candidates_of cs) (codes_of cs) (j + 1))
   turn cs old new j x is made sum =
       let turned : new ≡ map (after f (suc j)) cs = made ∙ ap (map (raised f)) is ∙ after_more f j cs in
-      let more = sym (add-one j) in (
-        turned ∙ ap (λ n. map (after f n) cs) more,
-        sum ∙ ap₂ (λ n xs. total f n (entry (codes_of xs))) (ap length is ∙ length-map cs (after f j)) turned ∙ sum_after cs j
-        ∙ ap (λ n. total f (length cs) (λ k. f.times (entry (codes_of cs) k) (power f (entry (points_of (candidates_of cs)) k) n))) more,
-      )
+      let long : length old ≡ length (candidates_of cs) = ap length is ∙ length-map cs (after f j) ∙ sym (length_candidates cs) in
+      rw add-one (turned, sum ∙ ap₂ (λ n xs. total f n (entry (codes_of xs))) long turned ∙ sum_after cs j)

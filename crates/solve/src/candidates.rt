@@ -1,7 +1,7 @@
 // Candidates: pages on which every solution has all its entries.
 ghost use Rattle.std.specs.Prelude.{◌≡◌, ◌+◌, ◌≤◌, ◌⊎◌, length};
 ghost use Rattle.solve.specs.Polynomials.{at, value};
-ghost use Rattle.solve.specs.Candidates.{FewRoots, RootPages, CoveredBy};
+ghost use Rattle.solve.specs.Candidates.{FewRoots, Roots, Covers};
 
 use crate::locator::locate;
 use crate::polynomial::evaluate;
@@ -24,7 +24,7 @@ pub(crate) fn choose<F: Field>(
     requires few_pages { pages ≤ F.Field.ops.places }
     requires few_values { length values.now ≤ 128 }
     requires enough { (length values.now ≡ pages) ⊎ (weight + weight ≤ length values.now) }
-    ensures { CoveredBy F.Field.ops pages weight values.now result.items }
+    ensures { Covers F.Field.ops pages weight values.now result.items }
 {
     if values.len() == pages {
         return roots::<F>(&[], pages);
@@ -35,7 +35,7 @@ pub(crate) fn choose<F: Field>(
 // The pages of 1 to `pages`, rising, at whose points the locator is 0.
 fn roots<F: Field>(locator: &[u32], pages: usize) -> ArrayVec<Candidate, 128>
     requires { FewRoots F.Field.ops (value F.Field.ops (length locator.now) (at locator.now) 0) pages }
-    ensures { RootPages F.Field.ops (value F.Field.ops (length locator.now) (at locator.now) 0) pages result.items }
+    ensures { Roots F.Field.ops (value F.Field.ops (length locator.now) (at locator.now) 0) pages result.items }
 {
     let mut found = ArrayVec::new();
     let mut point = 1;

@@ -1,7 +1,7 @@
 // The codes at the candidates that the sums force.
 ghost use Rattle.std.specs.Prelude.{◌≡◌, ℕ, ◌<◌, ◌≤◌, length};
 ghost use Rattle.solve.specs.Polynomials.{at, interpolated, Product};
-ghost use Rattle.solve.specs.Candidates.{points_of, candidates_of, codes_of, RisingIn, ForcedAt};
+ghost use Rattle.solve.specs.Candidates.{points_of, candidates_of, codes_of, RisingIn, Forced};
 
 use crate::candidates::Candidate;
 use crate::polynomial::combine;
@@ -25,7 +25,7 @@ pub(crate) fn interpolate<F: Field>(
     ensures candidates { candidates_of result.items ≡ candidates.now }
     ensures codes { (i : ℕ) → i < length candidates.now → at (codes_of result.items) i < F.Field.ops.size }
     ensures forced { (N : ℕ) → N ≤ F.Field.ops.places
-        → RisingIn F.Field.ops N candidates.now → ForcedAt F.Field.ops N candidates.now values.now (codes_of result.items) }
+        → RisingIn F.Field.ops N candidates.now → Forced F.Field.ops N candidates.now values.now (codes_of result.items) }
 {
     let product = product::<F>(candidates);
     let values = &values[..candidates.len()];

@@ -1,7 +1,7 @@
 // Listing the codes that are not 0.
 ghost use Rattle.std.specs.Prelude.{ℕ, ◌<◌, ◌≤◌, length};
 ghost use Rattle.solve.specs.Polynomials.{at};
-ghost use Rattle.solve.specs.Candidates.{pages_of, candidates_of};
+ghost use Rattle.solve.specs.Candidates.{pages_of, candidates_of, codes_of};
 ghost use Rattle.solve.specs.Listing.{NonzerosOf};
 
 use crate::Entry;
@@ -10,8 +10,8 @@ use crate::entries::Coded;
 // Puts the candidates whose codes are not 0 into the list, and blank entries after them: how many.
 pub(crate) fn list_nonzeros(coded: &[Coded], list: &mut [Entry; 129]) -> usize
     requires few { length coded.now ≤ 128 }
-    requires rising { (i j : ℕ) → i < j → j < length coded.now → at (pages_of (candidates_of coded.now)) i < at (pages_of (candidates_of coded.now)) j }
-    ensures { NonzerosOf coded.now result list.new }
+    requires rising { (i j : ℕ) → i < j → j < length (candidates_of coded.now) → at (pages_of (candidates_of coded.now)) i < at (pages_of (candidates_of coded.now)) j }
+    ensures { NonzerosOf (candidates_of coded.now) (codes_of coded.now) result list.new }
 {
     *list = [Entry { page: 0, code: 0 }; 129];
     let mut listed = 0;

@@ -2,7 +2,7 @@
 ghost use Rattle.std.specs.Prelude.{◌≡◌, ◌≤◌, map, length, Decides};
 ghost use Rattle.field.specs.Sums.{entry, total};
 ghost use Rattle.algebra.specs.Vectors.{weight as weight-of};
-ghost use Rattle.solve.specs.Candidates.{points_of, candidates_of, codes_of, raised, HasSums, VerifiedCodes};
+ghost use Rattle.solve.specs.Candidates.{candidates_of, codes_of, raised, HasSums, Verified};
 
 use crate::entries::Coded;
 use field::Field;
@@ -10,14 +10,14 @@ use field::Field;
 // Whether the codes at the candidates are a solution: at most `weight` are not 0, and the values are their sums.
 pub(crate) fn verified<F: Field>(coded: &[Coded], values: &[u32], weight: usize) -> bool
     requires { length coded.now ≤ 128 }
-    ensures { Decides result (VerifiedCodes F.Field.ops coded.now weight values.now) }
+    ensures { Decides result (Verified F.Field.ops (candidates_of coded.now) (codes_of coded.now) weight values.now) }
 {
     weigh(coded) <= weight && has_sums::<F>(coded, values)
 }
 
 // How many of the codes are not 0.
 fn weigh(coded: &[Coded]) -> usize
-    ensures { result ≡ weight-of (length coded.now) (entry (codes_of coded.now)) }
+    ensures { result ≡ weight-of (length (candidates_of coded.now)) (entry (codes_of coded.now)) }
 {
     coded.iter().filter(|coded| coded.code != 0).count()
 }
@@ -25,7 +25,7 @@ fn weigh(coded: &[Coded]) -> usize
 // Whether the codes at the candidates have the values for their sums. A term is a code times a power of its point.
 fn has_sums<F: Field>(coded: &[Coded], values: &[u32]) -> bool
     requires { length coded.now ≤ 128 }
-    ensures { Decides result (HasSums F.Field.ops (length coded.now) (entry (points_of (candidates_of coded.now))) (entry (codes_of coded.now)) values.now) }
+    ensures { Decides result (HasSums F.Field.ops (candidates_of coded.now) (codes_of coded.now) values.now) }
 {
     let mut room = [Coded::default(); 128];
     let terms = &mut room[..coded.len()];

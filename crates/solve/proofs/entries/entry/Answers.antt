@@ -1,4 +1,4 @@
-use Rattle.std.proofs.Common.{◌≡◌, ℕ, suc, ◌+◌, ◌-◌, length, sym, ap, ◌∙◌, ap₂, arith}
+use Rattle.std.proofs.Common.{◌≡◌, ℕ, suc, ◌+◌, ◌-◌, length, sym, ap, ◌∙◌, arith}
 use Rattle.field.specs.Field.{Ops}
 use Rattle.solve.specs.Polynomials.{at, value, window, quotient}
 use Rattle.solve.proofs.entries.entry.Goals as goal

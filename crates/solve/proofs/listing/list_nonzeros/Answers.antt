@@ -5,6 +5,7 @@ use Rattle.solve.specs.Candidates.{pages_of, candidates_of, codes_of}
 use Rattle.solve.specs.Answer.{blank}
 use Rattle.solve.specs.Listing.{Nonzeros}
 use Rattle.solve.proofs.Listings.{none_listed, leave, put}
+use Rattle.std.proofs.lemmas.List.{length-map}
 use Rattle.solve.proofs.Coding.{page_is, code_is}
 use Rattle.solve.proofs.listing.list_nonzeros.Goals as goal
 use Rattle.solve.proofs.listing.list_nonzeros.Goals.{then-term-ne0, else-term-ne0}
@@ -48,7 +49,7 @@ loop-term-preserved c =
     record {
       long = c.if-term-ne0.array_long;
       listed = elim c.if-term-ne0.branch [
-        | then-term-ne0 w ↦ written i k c.if-term-ne0.listed g v list c.if-term-ne0.list (λ j b. c.requires.rising j i b in_cs) (omega arith) h (λ z. w.if-term-ne0.true (sym code ∙ z)) w.listed-is
+        | then-term-ne0 w ↦ written i k c.if-term-ne0.listed g v list c.if-term-ne0.list (λ j b. c.requires.rising j i b (simp length-map in_cs)) (omega arith) h (λ z. w.if-term-ne0.true (sym code ∙ z)) w.listed-is
             (w.list-is ∙ ap₂ (λ p y. set list k (record { page = p; code = y })) (sym (page_is cs i in_cs)) (sym code))
         | else-term-ne0 w ↦ left (i + 1) k c.if-term-ne0.listed g v list c.if-term-ne0.list (leave i g v k list h (code ∙ w.if-term-ne0.false)) w.listed-is w.list-is
       ];

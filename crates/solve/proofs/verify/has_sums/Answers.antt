@@ -1,9 +1,7 @@
-use Rattle.std.proofs.Common.{◌≡◌, ℕ, ◌+◌, ◌-◌, length, sym, ap, ◌∙◌, arith}
+use Rattle.std.proofs.Common.{◌≡◌, ◌+◌, ◌-◌, sym, ap, ◌∙◌, arith}
 use Rattle.std.proofs.Math.Decide.{ℕ_discrete}
-use Rattle.field.specs.Field.{power}
-use Rattle.field.specs.Sums.{entry, total}
 use Rattle.solve.specs.Polynomials.{at}
-use Rattle.solve.specs.Candidates.{points_of, candidates_of, codes_of}
+use Rattle.solve.specs.Candidates.{candidates_of, codes_of, sum_at}
 use Rattle.solve.proofs.Terms.{after_none, turn}
 use Rattle.solve.proofs.verify.has_sums.Goals as goal
 
@@ -20,7 +18,7 @@ loop-value-preserved g c =
       terms = turned.0;
       sums = λ j b. elim (ℕ_discrete j (i + 1)) [
         | yes e ↦
-            ap (λ n. total f (length cs) (λ k. f.times (entry (codes_of cs) k) (power f (entry (points_of (candidates_of cs)) k) n))) e
+            ap (sum_at f (candidates_of cs) (codes_of cs)) e
             ∙ sym turned.1 ∙ c.if-next_sum-value.false ∙ ap (at c.args.values.now) (let w : i ≡ j - 1 = omega arith in w)
         | no d ↦ c.loop-value.invariant.sums j (omega arith)
       ];

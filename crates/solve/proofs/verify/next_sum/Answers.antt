@@ -1,7 +1,6 @@
-use Rattle.std.proofs.Common.{◌≡◌, ℕ, ◌+◌, ◌-◌, ◌<◌, ◌++◌, List, map, take, drop, set, length, get_or, sym, ap, ◌∙◌, ap₂, arith, length-take-le, get_or-drop}
+use Rattle.std.proofs.Common.{◌≡◌, ℕ, ◌+◌, ◌<◌, ◌++◌, List, map, take, drop, set, length, get_or, sym, ap, ◌∙◌, ap₂, arith, length-take-le, get_or-drop}
 use Rattle.std.proofs.lemmas.List.{get_or-map, get_or-append-add, get_or_default, length-map}
 use Rattle.std.proofs.lemmas.List.Edits.{map_over_more}
-use Rattle.field.specs.Sums.{entry, total}
 use Rattle.solve.specs.declared.entries.Coded.{Coded}
 use Rattle.solve.specs.Polynomials.{at}
 use Rattle.solve.specs.Candidates.{codes_of, raised}
