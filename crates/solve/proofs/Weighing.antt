@@ -12,7 +12,7 @@ use Rattle.solve.proofs.Coding.{none, code_is}
 abbrev pub some : Coded → Bool
 some c = not (eqb c.code 0)
 
-counted_some : (a k : ℕ) → ¬ (a ≡ 0) → k + 1 ≡ counted a k
+pub counted_some : (a k : ℕ) → ¬ (a ≡ 0) → k + 1 ≡ counted a k
 counted_some zero k d = absurd (d refl)
 counted_some (suc a) k d = add-one k
 

@@ -1,5 +1,6 @@
 -- Windows of words: zeros at either end, polynomials moved up, and differences.
-use Rattle.std.proofs.Common.{◌≡◌, ℕ, zero, suc, ◌+◌, ◌-◌, ◌<◌, ◌≤◌, Bool, true, false, cond, ltb, List, length, take, drop, add-one, length-take-le, get_or-take, get_or-drop, sym, refl, ap, ◌∙◌, ap₂, arith, ltb-false, ltb-true}
+use Rattle.std.proofs.Common.{◌≡◌, ℕ, zero, suc, ◌+◌, ◌-◌, ◌<◌, ◌≤◌, cond, List, length, take, drop, add-one, length-take-le, get_or-take, get_or-drop, sym, refl, ap, ◌∙◌, ap₂, arith}
+use Rattle.std.proofs.lemmas.Bool.{lt-ltb, le-ltb}
 use Rattle.std.proofs.Math.Nat.{zero-mod}
 use Rattle.field.specs.Field.{Ops, Laws}
 use Rattle.field.proofs.Laws.{code_mod, zero_plus, times_zero, plus_cancel}
@@ -9,18 +10,10 @@ use Rattle.solve.specs.Polynomials.{at, window, shifted}
 use Rattle.solve.proofs.Words.{window_code}
 
 shifted_low : (a : ℕ) (p : ℕ → ℕ) (i : ℕ) → i < a → shifted a p i ≡ 0
-shifted_low a p i h = go (ltb i a) refl
-  where
-    go : (b : Bool) → ltb i a ≡ b → cond b 0 (p (i - a)) ≡ 0
-    go true e = refl
-    go false e = absurd (omega (arith, ltb-false i a e))
+shifted_low a p i h = ap (λ b. cond b 0 (p (i - a))) (lt-ltb i a h)
 
 pub shifted_high : (a : ℕ) (p : ℕ → ℕ) (i : ℕ) → a ≤ i → shifted a p i ≡ p (i - a)
-shifted_high a p i h = go (ltb i a) refl
-  where
-    go : (b : Bool) → ltb i a ≡ b → cond b 0 (p (i - a)) ≡ p (i - a)
-    go true e = absurd (omega (arith, ltb-true i a e))
-    go false e = refl
+shifted_high a p i h = ap (λ b. cond b 0 (p (i - a))) (le-ltb i a h)
 
 pub shifted_none : (p : ℕ → ℕ) (i : ℕ) → shifted 0 p i ≡ p i
 shifted_none p i = shifted_high 0 p i (omega arith) ∙ ap p (let e : i - 0 ≡ i = omega arith in e)

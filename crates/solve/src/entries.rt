@@ -61,7 +61,7 @@ fn entry<F: Field>(product: &[u32; 129], x: u32, values: &[u32]) -> u32
     let mut quotient = 0;
     let mut against_values = 0;
     let mut at_x = 0;
-    // By index: both rows are read from the end, and a chain from there hides that they stand one place apart.
+    // By index: both rows are read from the end, one a place apart from the other, and the product's row may be longer.
     for k in (0..values.len()).rev() {
         quotient = F::mul_add(quotient, x, product[k + 1]);
         against_values = F::mul_add(quotient, values[k], against_values);

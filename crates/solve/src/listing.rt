@@ -14,6 +14,7 @@ pub(crate) fn list_nonzeros(coded: &[Coded], list: &mut [Entry; 129]) -> usize
     ensures { NonzerosOf (candidates_of coded.now) (codes_of coded.now) result list.new }
 {
     *list = [Entry { page: 0, code: 0 }; 129];
+    // Counted by hand: after a chain that writes into the list nothing is known of what the list holds.
     let mut listed = 0;
     for term in coded {
         if term.code != 0 {
