@@ -64,9 +64,9 @@ module _ (f : Ops) (N m : ℕ) (g x v : ℕ → ℕ) (r : Rising f N m g x) (k :
     | inr off ↦ vector_off m g v n off ∙ sym (unlisted n b.0 (λ i c is. let s = h.stands i c in off s.0 s.1 (sym s.2 ∙ is)))
   ]
 
-  pub listed : m < length list → Listed N k list
+  listed : k < length list → Listed N k list
   listed fits = record {
-    fits = let few = h.few in omega arith;
+    fits = fits;
     rising = h.rising;
     pages = λ i b. let s = h.stands i b in subst (λ (n : ℕ). Page N n) (sym s.2) (r.page s.0 s.1);
     codes = h.some;
@@ -108,25 +108,23 @@ module _ {f : Ops} (l : Laws f) (N t : ℕ) (values : List ℕ) (cs : List Candi
     sums = λ j b. sym (vector_sum l N g x v j m cover.rising) ∙ right.1 j b;
   }
 
-  -- of codes that these are
-  by_candidates : (r : Bool) (xs : List Coded) → xs ≡ coded → Decides r (Verified f (candidates_of xs) (codes_of xs) t values) → Decides r (Verified f cs (codes_of coded) t values)
-  by_candidates r xs is h =
-      subst (λ ds. Decides r (Verified f ds (codes_of coded) t values)) same (subst (λ ys. Decides r (Verified f (candidates_of ys) (codes_of ys) t values)) is h)
+  by_candidates : (r : Bool) → Decides r (Verified f (candidates_of coded) (codes_of coded) t values) → Decides r (Verified f cs (codes_of coded) t values)
+  by_candidates r h = subst (λ ds. Decides r (Verified f ds (codes_of coded) t values)) same h
 
   -- there is no solution if these codes are too many or have other sums
-  pub unsolvable : (xs : List Coded) → xs ≡ coded → Decides false (Verified f (candidates_of xs) (codes_of xs) t values) → (e : ℕ → ℕ) → Solution f N t values e → ⊥
-  unsolvable xs is wrong e sol = not_from_Decides false (by_candidates false xs is wrong) refl (
+  pub unsolvable : Decides false (Verified f (candidates_of coded) (codes_of coded) t values) → (e : ℕ → ℕ) → Solution f N t values e → ⊥
+  unsolvable wrong e sol = not_from_Decides false (by_candidates false wrong) refl (
     omega (arith, weight_same N e (vector m g v) (only e sol), vector_weight f N m g x v cover.rising, sol.light),
     λ j b. vector_sum l N g x v j m cover.rising
         ∙ total_same f N _ _ (λ n c. ap (λ y. f.times y (power f f.alpha (j * n))) (sym (only e sol n c))) ∙ sol.sums j b,
   )
 
-  pub solved : (xs : List Coded) → xs ≡ coded → Decides true (Verified f (candidates_of xs) (codes_of xs) t values) → (ys : List Coded) → ys ≡ coded
-      → (k : ℕ) (list : List Entry) → m < length list → NonzerosOf (candidates_of ys) (codes_of ys) k list → Solved f N t values k list
-  solved xs is right ys are k list fits found =
-      let h : Nonzeros m g v k list = subst (λ ds. NonzerosOf ds (codes_of coded) k list) same (subst (λ ys. NonzerosOf (candidates_of ys) (codes_of ys) k list) are found) in
+  pub solved : Decides true (Verified f (candidates_of coded) (codes_of coded) t values) → (k : ℕ) (list : List Entry) → k < length list
+      → NonzerosOf (candidates_of coded) (codes_of coded) k list → Solved f N t values k list
+  solved right k list fits found =
+      let h : Nonzeros m g v k list = subst (λ ds. NonzerosOf ds (codes_of coded) k list) same found in
       record {
         listed = listed f N m g x v cover.rising k list h fits;
-        solves = same_solution f N t values (vector m g v) (code_at list) (listed_is f N m g x v cover.rising k list h) (solves ((by_candidates true xs is right).0 refl));
+        solves = same_solution f N t values (vector m g v) (code_at list) (listed_is f N m g x v cover.rising k list h) (solves ((by_candidates true right).0 refl));
         only = λ e sol n b. only e sol n b ∙ listed_is f N m g x v cover.rising k list h n b;
       }

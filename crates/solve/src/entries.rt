@@ -17,16 +17,16 @@ pub(crate) struct Coded {
 
 // A code for each candidate: what each vector has there that has the values for its first sums and is 0 elsewhere.
 pub(crate) fn interpolate<F: Field>(
-    candidates: &[Candidate],
+    candidates: &ArrayVec<Candidate, 128>,
     values: &[u32],
 ) -> ArrayVec<Coded, 128>
-    requires few { length candidates.now ≤ 128 }
-    requires known { length candidates.now ≤ length values.now }
-    ensures candidates { candidates_of result.items ≡ candidates.now }
-    ensures codes { (i : ℕ) → i < length candidates.now → at (codes_of result.items) i < F.Field.ops.size }
+    requires { length candidates.now.items ≤ length values.now }
+    ensures candidates { candidates_of result.items ≡ candidates.now.items }
+    ensures codes { (i : ℕ) → i < length candidates.now.items → at (codes_of result.items) i < F.Field.ops.size }
     ensures forced { (N : ℕ) → N ≤ F.Field.ops.places
-        → RisingIn F.Field.ops N candidates.now → Forced F.Field.ops N candidates.now values.now (codes_of result.items) }
+        → RisingIn F.Field.ops N candidates.now.items → Forced F.Field.ops N candidates.now.items values.now (codes_of result.items) }
 {
+    let candidates = candidates.as_slice();
     let product = product::<F>(candidates);
     let values = &values[..candidates.len()];
     let mut coded = ArrayVec::new();

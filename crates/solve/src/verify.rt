@@ -5,12 +5,16 @@ ghost use Rattle.algebra.specs.Vectors.{weight as weight-of};
 ghost use Rattle.solve.specs.Candidates.{candidates_of, codes_of, raised, HasSums, Verified};
 
 use crate::entries::Coded;
+use arrayvec::ArrayVec;
 use field::Field;
 
 // Whether the codes at the candidates are a solution: at most `weight` are not 0, and the values are their sums.
-pub(crate) fn verified<F: Field>(coded: &[Coded], values: &[u32], weight: usize) -> bool
-    requires { length coded.now ≤ 128 }
-    ensures { Decides result (Verified F.Field.ops (candidates_of coded.now) (codes_of coded.now) weight values.now) }
+pub(crate) fn verified<F: Field>(
+    coded: &ArrayVec<Coded, 128>,
+    values: &[u32],
+    weight: usize,
+) -> bool
+    ensures { Decides result (Verified F.Field.ops (candidates_of coded.now.items) (codes_of coded.now.items) weight values.now) }
 {
     weigh(coded) <= weight && has_sums::<F>(coded, values)
 }

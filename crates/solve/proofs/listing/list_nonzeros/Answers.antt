@@ -30,12 +30,12 @@ left m k k' g v list list' h ek el = subst (λ (n : ℕ). Nonzeros m g v n list'
 pub loop-term-init : goal.loop-term-init
 loop-term-init c = record {
   long = refl;
-  listed = none_listed (at (pages_of (candidates_of c.args.coded.now))) (at (codes_of c.args.coded.now)) (replicate 129 blank) (blanks 129);
+  listed = none_listed (at (pages_of (candidates_of c.as_slice-coded.result.now))) (at (codes_of c.as_slice-coded.result.now)) (replicate 129 blank) (blanks 129);
 }
 
 pub loop-term-preserved : goal.loop-term-preserved
 loop-term-preserved c =
-    let cs = c.args.coded.now in
+    let cs = c.as_slice-coded.result.now in
     let i = c.loop-term.term-index in
     let k = c.loop-term.listed in
     let list = c.loop-term.list in
@@ -46,10 +46,12 @@ loop-term-preserved c =
     let h = c.loop-term.invariant.listed in
     let few = h.few in
     let code = code_is cs i in_cs in
+    let rise = subst (λ cs. (i j : ℕ) → i < j → j < length (candidates_of cs) → at (pages_of (candidates_of cs)) i < at (pages_of (candidates_of cs)) j) (sym c.as_slice-coded.ensures.value) c.requires in
+    let fits = c.as_slice-coded.ensures.fits in
     record {
       long = c.if-term-ne0.array_long;
       listed = elim c.if-term-ne0.branch [
-        | then-term-ne0 w ↦ written i k c.if-term-ne0.listed g v list c.if-term-ne0.list (λ j b. c.requires.rising j i b (simp length-map in_cs)) (omega arith) h (λ z. w.if-term-ne0.true (sym code ∙ z)) w.listed-is
+        | then-term-ne0 w ↦ written i k c.if-term-ne0.listed g v list c.if-term-ne0.list (λ j b. rise j i b (simp length-map in_cs)) (omega arith) h (λ z. w.if-term-ne0.true (sym code ∙ z)) w.listed-is
             (w.list-is ∙ ap₂ (λ p y. set list k (record { page = p; code = y })) (sym (page_is cs i in_cs)) (sym code))
         | else-term-ne0 w ↦ left (i + 1) k c.if-term-ne0.listed g v list c.if-term-ne0.list (leave i g v k list h (code ∙ w.if-term-ne0.false)) w.listed-is w.list-is
       ];
