@@ -1,6 +1,6 @@
 -- Arrays of words: what stands where after a write.
 use Rattle.std.proofs.Common.{◌≡◌, ℕ, ◌<◌, set, replicate, ◌∙◌, arith, get_or-set_other}
-use lib.ListN.{get_or-replicate}
+use Rattle.std.proofs.lemmas.List.{get_or-replicate}
 use Rattle.solve.specs.Polynomials.{at}
 
 -- 1 first, and 0 after it

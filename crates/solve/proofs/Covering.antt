@@ -1,6 +1,7 @@
 -- Candidates cover the solutions: all the pages do, and so do the roots of a locator.
 use Rattle.std.proofs.Common.{◌≡◌, ℕ, zero, suc, ◌+◌, ◌<◌, ◌≤◌, List, length, sym, refl, ap, ◌∙◌, arith}
 use Rattle.field.specs.Field.{Ops, Laws, Spread}
+use Rattle.solve.specs.declared.candidates.Candidate.{Candidate}
 use Rattle.solve.specs.Polynomials.{at, value, Locates}
 use Rattle.solve.specs.Candidates.{Rising, Roots, Covers}
 use Rattle.solve.proofs.Recovery.{fewer_roots, at_roots}
@@ -14,24 +15,24 @@ pub fewer_pages : (f : Ops) (N m : ℕ) (g x : ℕ → ℕ) → Rising f N m g x
 fewer_pages f N zero g x r = omega arith
 fewer_pages f N (suc m) g x r = let w = above f N (suc m) g x r m (omega arith) in let u = r.page m (omega arith) in omega arith
 
-pub covers_all : (f : Ops) (N t : ℕ) (values : List ℕ) → length values ≡ N → (p : ℕ → ℕ) (m : ℕ) (g x : ℕ → ℕ) → Roots f (value f 0 p 0) N m g x → Covers f N t values m g x
-covers_all f N t values all p m g x roots = record {
+pub covers_all : (f : Ops) (N t : ℕ) (values : List ℕ) → length values ≡ N → (p : ℕ → ℕ) (cs : List Candidate) → Roots f (value f 0 p 0) N cs → Covers f N t values cs
+covers_all f N t values all p cs roots = record {
   rising = roots.rising;
-  known = let w = fewer_pages f N m g x roots.rising in omega arith;
+  known = let w = fewer_pages f N _ _ _ roots.rising in omega arith;
   covers = λ e sol n b some. roots.all n b refl;
 }
 
-module _ {f : Ops} (l : Laws f) (spread : Spread f) (N : ℕ) (le : N ≤ f.places) (t k : ℕ) (values : List ℕ) (p : ℕ → ℕ) (loc : Locates f t (at values) p k) where
+module _ {f : Ops} (l : Laws f) (spread : Spread f) (N : ℕ) (le : N ≤ f.places) (t : ℕ) (values p : List ℕ) (loc : Locates f t (at values) p) where
   -- a locator has at most t roots
-  pub few_located : (m : ℕ) (g x : ℕ → ℕ) → Rising f N m g x → ((i : ℕ) → i < m → value f k p 0 (x i) ≡ 0) → m ≤ t
+  pub few_located : (m : ℕ) (g x : ℕ → ℕ) → Rising f N m g x → ((i : ℕ) → i < m → value f (length p) (at p) 0 (x i) ≡ 0) → m ≤ t
   few_located m g x r root =
       let short = loc.short in
-      let w = fewer_roots l spread N le loc.degree p loc.monic m g x r (λ i b. ap (λ n. value f n p 0 (x i)) (sym loc.terms) ∙ root i b) in
+      let w = fewer_roots l spread N le loc.degree (at p) loc.monic m g x r (λ i b. ap (λ n. value f n (at p) 0 (x i)) (sym loc.terms) ∙ root i b) in
       omega arith
 
-  pub covers_located : t + t ≤ length values → (m : ℕ) (g x : ℕ → ℕ) → Roots f (value f k p 0) N m g x → Covers f N t values m g x
-  covers_located two m g x roots = record {
+  pub covers_located : t + t ≤ length values → (cs : List Candidate) → Roots f (value f (length p) (at p) 0) N cs → Covers f N t values cs
+  covers_located two cs roots = record {
     rising = roots.rising;
-    known = let w = few_located m g x roots.rising roots.root in omega arith;
-    covers = λ e sol n b some. roots.all n b (at_roots l spread N le values (length values) e sol.codes sol.sums t sol.light two p k loc n b some);
+    known = let w = few_located _ _ _ roots.rising roots.root in omega arith;
+    covers = λ e sol n b some. roots.all n b (at_roots l spread N le values (length values) e sol.codes sol.sums t sol.light two p loc n b some);
   }

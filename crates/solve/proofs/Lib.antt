@@ -1,4 +1,4 @@
-pub mod Turns
+pub mod Folds
 pub mod Words
 pub mod Windows
 pub mod Search
@@ -7,9 +7,10 @@ pub mod Choosing
 pub mod Recovery
 pub mod Covering
 pub mod Products
+pub mod Coding
 pub mod Vectors
 pub mod Terms
+pub mod Weighing
 pub mod Listings
 pub mod Solutions
-pub mod Lookups
 pub mod Values

@@ -1,7 +1,6 @@
 -- Listing the codes that are not 0, one by one; and what a list gives each page.
-use Rattle.std.proofs.Common.{◌≡◌, ℕ, zero, suc, ◌+◌, ◌<◌, Bool, true, false, cond, eqb, ◌≢◌, List, [], ◌∷◌, get_or, sym, refl, ap, ◌∙◌, arith, eqb-true}
-use native.Mathlib.Decide.{ℕ_discrete}
-use borrow.Author.Tests.{eqb-false}
+use Rattle.std.proofs.Common.{◌≡◌, ℕ, zero, suc, ◌+◌, ◌<◌, Bool, true, false, cond, eqb, ◌≢◌, List, [], ◌∷◌, get_or, sym, refl, ap, ap₂, ◌∙◌, arith, eq-eqb, ne_eqb}
+use Rattle.std.proofs.Math.Decide.{ℕ_discrete}
 use Rattle.solve.specs.declared.Entry.{Entry}
 use Rattle.solve.specs.Answer.{blank, code_at}
 use Rattle.solve.specs.Listing.{Nonzeros}
@@ -57,28 +56,23 @@ module _ (m : ℕ) (g v : ℕ → ℕ) (k : ℕ) (list : List Entry) (h : Nonzer
     rest = λ i b. old i (λ w. omega arith) ∙ h.rest i (omega arith);
   }
 
+-- the code of the first entry counts, or the list after it
+abbrev first_or : Entry → List Entry → ℕ → Bool → Bool → ℕ
+first_or x xs n last found = cond last 0 (cond found x.code (code_at xs n))
+
 pub code_at_none : (list : List Entry) (n : ℕ) → ((i : ℕ) → ¬ (page_of list i ≡ n)) → code_at list n ≡ 0
 code_at_none [] n h = refl
-code_at_none (x ∷ xs) n h = go (eqb x.page 0) (eqb x.page n) refl (code_at_none xs n (λ i. h (suc i)))
+code_at_none (x ∷ xs) n h =
+    ap (first_or x xs n (eqb x.page 0)) (ne_eqb x.page n (h 0)) ∙ ap (cond (eqb x.page 0) 0) (code_at_none xs n (λ i. h (suc i))) ∙ both (eqb x.page 0)
   where
-    go : (a b : Bool) → eqb x.page n ≡ b → code_at xs n ≡ 0 → cond a 0 (cond b x.code (code_at xs n)) ≡ 0
-    go true b e ih = refl
-    go false true e ih = absurd (h 0 (eqb-true x.page n e))
-    go false false e ih = ih
+    both : (b : Bool) → ◌≡◌ {A = ℕ} (cond b 0 0) 0
+    both true = refl
+    both false = refl
 
 -- the first place with page n, before any page 0
 pub code_at_first : (list : List Entry) (n i : ℕ) → ¬ (n ≡ 0) → ((k : ℕ) → k < i → ¬ (page_of list k ≡ 0) × ¬ (page_of list k ≡ n)) → page_of list i ≡ n → code_at list n ≡ code_of list i
 code_at_first [] n i some before is = absurd (some (sym is))
-code_at_first (x ∷ xs) n zero some before is = go (eqb x.page 0) (eqb x.page n) refl refl
-  where
-    go : (a b : Bool) → eqb x.page 0 ≡ a → eqb x.page n ≡ b → cond a 0 (cond b x.code (code_at xs n)) ≡ x.code
-    go true b e w = absurd (some (sym is ∙ eqb-true x.page 0 e))
-    go false true e w = refl
-    go false false e w = absurd (eqb-false x.page n w is)
+code_at_first (x ∷ xs) n zero some before is = ap₂ (first_or x xs n) (ne_eqb x.page 0 (λ z. some (sym is ∙ z))) (eq-eqb x.page n is)
 code_at_first (x ∷ xs) n (suc i) some before is =
-    go (eqb x.page 0) (eqb x.page n) refl refl (code_at_first xs n i some (λ k b. before (suc k) (omega arith)) is)
-  where
-    go : (a b : Bool) → eqb x.page 0 ≡ a → eqb x.page n ≡ b → code_at xs n ≡ code_of xs i → cond a 0 (cond b x.code (code_at xs n)) ≡ code_of xs i
-    go true b e w ih = absurd ((before 0 (omega arith)).0 (eqb-true x.page 0 e))
-    go false true e w ih = absurd ((before 0 (omega arith)).1 (eqb-true x.page n w))
-    go false false e w ih = ih
+    let other = before 0 (omega arith) in
+    ap₂ (first_or x xs n) (ne_eqb x.page 0 other.0) (ne_eqb x.page n other.1) ∙ code_at_first xs n i some (λ k b. before (suc k) (omega arith)) is

@@ -1,7 +1,7 @@
 -- The product of x - a over some points has these for roots.
 use Rattle.std.proofs.Common.{◌≡◌, ℕ, zero, suc, ◌+◌, ◌-◌, ◌<◌, ◌≤◌, sym, refl, ap, ◌∙◌, ap₂, arith}
-use native.Mathlib.Nat.{zero-mod}
-use native.Mathlib.Decide.{ℕ_discrete}
+use Rattle.std.proofs.Math.Nat.{zero-mod}
+use Rattle.std.proofs.Math.Decide.{ℕ_discrete}
 use Rattle.field.specs.Field.{Ops, Laws, power}
 use Rattle.field.proofs.Laws.{code_mod, one_code, one_times, times_mod_left, times_zero}
 use Rattle.algebra.proofs.Ring.{ring, ◌⊞◌, ◌⊠◌}

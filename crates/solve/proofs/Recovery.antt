@@ -1,6 +1,6 @@
 -- What its first sums tell of a vector: its pages are roots of a locator, and its entries are those that are interpolated.
 use Rattle.std.proofs.Common.{◌≡◌, ℕ, zero, suc, ◌+◌, ◌-◌, ◌<◌, ◌≤◌, ◌≢◌, List, length, sym, ap, ◌∙◌, subst, ap₂, arith}
-use native.Mathlib.Decide.{ℕ_discrete, dec_le}
+use Rattle.std.proofs.Math.Decide.{ℕ_discrete, dec_le}
 use Rattle.field.specs.Field.{Ops, Laws, Spread, power}
 use Rattle.field.specs.Sums.{entry, power_sum}
 use Rattle.field.proofs.Laws.{code_mod, one_code, zero_plus, times_zero}
@@ -17,7 +17,7 @@ use Rattle.solve.proofs.Words.{E, list, list_length, list_monic, list_quotient, 
 
 module _ {f : Ops} (l : Laws f) (spread : Spread f) (N : ℕ) (le : N ≤ f.places) where
   -- rising pages have different points
-  pub points_apart : (m : ℕ) (g x : ℕ → ℕ) → Rising f N m g x → (i j : ℕ) → i < j → j < m → ¬ (el l (x i) ≡ el l (x j))
+  points_apart : (m : ℕ) (g x : ℕ → ℕ) → Rising f N m g x → (i j : ℕ) → i < j → j < m → ¬ (el l (x i) ≡ el l (x j))
   points_apart m g x r i j ij jm z =
       let rise = r.rise i j ij jm in
       let same = (points l spread N le).apart (g i) (g j) (r.page i (omega arith)) (r.page j jm)
@@ -48,21 +48,21 @@ module _ {f : Ops} (l : Laws f) (spread : Spread f) (N : ℕ) (le : N ≤ f.plac
     windows : (p : List (E l)) (j : ℕ) → j + length p ≤ J → poly.window (codes l) p S (suc j) ≡ poly.window (codes l) p V j
     windows p j h = window_agree l p S V (suc j) j (λ i b. ap S (let w : suc j + i ≡ suc (j + i) = omega arith in w) ∙ sum_is (j + i) (omega arith))
 
-    pub at_roots : (t : ℕ) → weight N e ≤ t → t + t ≤ J → (p : ℕ → ℕ) (k : ℕ) → Locates f t (at values) p k
-        → (n : ℕ) → Page N n → ¬ (e n ≡ 0) → value f k p 0 (power f f.alpha n) ≡ 0
-    at_roots t light two p k loc n b some =
-        el_injective_zero l _ (value_code l k p 0 _)
-        (el_value l k p 0 (power f f.alpha n)
-        ∙ sparse.located (codes l) (point l) N (points l spread N le) t e light (λ n. el l (e n)) (λ m c z. ap (el l) z ∙ el_zero l) (list l k p 0) clear n b
+    pub at_roots : (t : ℕ) → weight N e ≤ t → t + t ≤ J → (p : List ℕ) → Locates f t (at values) p
+        → (n : ℕ) → Page N n → ¬ (e n ≡ 0) → value f (length p) (at p) 0 (power f f.alpha n) ≡ 0
+    at_roots t light two p loc n b some =
+        el_injective_zero l _ (value_code l (length p) (at p) 0 _)
+        (el_value l (length p) (at p) 0 (power f f.alpha n)
+        ∙ sparse.located (codes l) (point l) N (points l spread N le) t e light (λ n. el l (e n)) (λ m c z. ap (el l) z ∙ el_zero l) (list l (length p) (at p) 0) clear n b
         (λ z. some (el_injective_zero l (e n) (small n b) z)))
       where
-        clear : (j : ℕ) → 1 ≤ j → j ≤ t → poly.window (codes l) (list l k p 0) S j ≡ (codes l).nought
+        clear : (j : ℕ) → 1 ≤ j → j ≤ t → poly.window (codes l) (list l (length p) (at p) 0) S j ≡ (codes l).nought
         clear zero lo hi = absurd (omega arith)
         clear (suc j) lo hi =
             let short = loc.short in
             let terms = loc.terms in
-            let len = list_length l k p 0 in
-            windows (list l k p 0) j (omega arith) ∙ sym (el_window l k p 0 (at values) j) ∙ ap (el l) (loc.clears j (omega arith)) ∙ el_zero l
+            let len = list_length l (length p) (at p) 0 in
+            windows (list l (length p) (at p) 0) j (omega arith) ∙ sym (el_window l (length p) (at p) 0 (at values) j) ∙ ap (el l) (loc.clears j (omega arith)) ∙ el_zero l
 
     module _ (m : ℕ) (g x p : ℕ → ℕ) (r : Rising f N m g x) (product : Product f m x p) (known : m ≤ J) (support : Supported N m g e) (i : ℕ) (im : i < m) where
       abbrev a : ℕ

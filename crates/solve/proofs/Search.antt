@@ -1,11 +1,11 @@
 -- The search for a locator: what holds at each turn, and that each turn keeps it.
-use Rattle.std.proofs.Common.{◌≡◌, ℕ, suc, ◌+◌, ◌-◌, ◌<◌, ◌≤◌, sym, refl, ap, ◌∙◌, subst, ap₂, arith}
-use native.Mathlib.Decide.{ℕ_discrete}
+use Rattle.std.proofs.Common.{◌≡◌, ℕ, suc, ◌+◌, ◌-◌, ◌<◌, ◌≤◌, List, length, take, length-take-le, get_or-take, add-one, sym, refl, ap, ◌∙◌, subst, ap₂, arith}
+use Rattle.std.proofs.Math.Decide.{ℕ_discrete}
 use Rattle.field.specs.Field.{Ops, Laws}
 use Rattle.field.proofs.Laws.{code_mod, one_code}
-use Rattle.solve.specs.Polynomials.{window, Locates}
+use Rattle.solve.specs.Polynomials.{at, window, Locates}
 use Rattle.solve.proofs.Words.{window_code}
-use Rattle.solve.proofs.Windows.{shifted_high, shifted_none, minus_self, minus_none, Difference, window_end, window_difference}
+use Rattle.solve.proofs.Windows.{shifted_high, shifted_none, minus_self, minus_none, Difference, window_end, window_difference, window_front_of}
 
 -- p is monic of degree d and clears the windows before k; w is 0 above place k, clears the windows before d - 1, and gives last there
 pub record Held (f : Ops) (t : ℕ) (s p w : ℕ → ℕ) (last d k : ℕ) : Type 0 where
@@ -142,11 +142,11 @@ module _ {f : Ops} (l : Laws f) where
     }
 
     -- t windows are enough
-    pub done : (p w : ℕ → ℕ) (last d k : ℕ) → Held f t s p w last d k → t ≤ k → Locates f t s p (suc d)
-    done p w last d k h le = record {
+    pub done : (p : List ℕ) (w : ℕ → ℕ) (last d k : ℕ) → Held f t s (at p) w last d k → t ≤ k → d < length p → Locates f t s (take (d + 1) p)
+    done p w last d k h le lt = record {
       degree = d;
-      terms = refl;
+      terms = length-take-le (d + 1) p (omega arith) ∙ add-one d;
       short = h.short;
-      monic = h.monic;
-      clears = λ j b. sym (whole p w last d k h j) ∙ h.clears j (omega arith);
+      monic = get_or-take (d + 1) p d 0 (omega arith) ∙ h.monic;
+      clears = λ j b. window_front_of f p s d j lt ∙ sym (whole (at p) w last d k h j) ∙ h.clears j (omega arith);
     }

@@ -1,6 +1,6 @@
 -- The codes that are forced at the candidates are the one solution, or there is none.
-use Rattle.std.proofs.Common.{◌≡◌, ℕ, ◌-◌, ◌*◌, ◌<◌, ◌≤◌, true, false, List, length, get_or, Decides, sym, refl, ap, ◌∙◌, subst, inl, inr, arith}
-use native.Mathlib.Decide.{ℕ_discrete, dec_le}
+use Rattle.std.proofs.Common.{◌≡◌, ℕ, ◌*◌, ◌<◌, ◌≤◌, Bool, true, false, List, length, get_or, Decides, sym, refl, ap, ◌∙◌, subst, inl, inr, arith}
+use Rattle.std.proofs.Math.Decide.{ℕ_discrete, dec_le}
 use Rattle.std.proofs.lemmas.Bool.Decides.{not_from_Decides}
 use Rattle.field.specs.Field.{Ops, Laws, power}
 use Rattle.algebra.specs.Vectors.{Page}
@@ -9,8 +9,11 @@ use Rattle.algebra.proofs.Codes.{zero_code}
 use Rattle.solve.specs.declared.Entry.{Entry}
 use Rattle.solve.specs.Solution.{Solution}
 use Rattle.solve.specs.Answer.{blank, code_at, Listed, Solved}
-use Rattle.solve.specs.Candidates.{Rising, Covers, Forced, Verified}
-use Rattle.solve.specs.Listing.{Nonzeros}
+use Rattle.solve.specs.declared.candidates.Candidate.{Candidate}
+use Rattle.solve.specs.declared.entries.Coded.{Coded}
+use Rattle.solve.specs.Polynomials.{at}
+use Rattle.solve.specs.Candidates.{pages_of, points_of, candidates_of, codes_of, Rising, Covers, Forced, Verified}
+use Rattle.solve.specs.Listing.{Nonzeros, NonzerosOf}
 use Rattle.solve.proofs.Vectors.{vector, vector_off, vector_at, vector_weight, vector_sum, among, total_same}
 use Rattle.solve.proofs.Listings.{code_at_none, code_at_first}
 
@@ -61,17 +64,29 @@ module _ (f : Ops) (N m : ℕ) (g x v : ℕ → ℕ) (r : Rising f N m g x) (k :
     | inr off ↦ vector_off m g v n off ∙ sym (unlisted n b.0 (λ i c is. let s = h.stands i c in off s.0 s.1 (sym s.2 ∙ is)))
   ]
 
-  pub listed : m < length list → Listed N k list
+  listed : k < length list → Listed N k list
   listed fits = record {
-    fits = let few = h.few in omega arith;
+    fits = fits;
     rising = h.rising;
     pages = λ i b. let s = h.stands i b in subst (λ (n : ℕ). Page N n) (sym s.2) (r.page s.0 s.1);
     codes = h.some;
     rest = h.rest;
   }
 
-module _ {f : Ops} (l : Laws f) (N t : ℕ) (values : List ℕ) (m : ℕ) (g x v : ℕ → ℕ) (cover : Covers f N t values m g x)
-    (small : (i : ℕ) → i < m → v i < f.size) (forced : Forced f N m g values v) where
+module _ {f : Ops} (l : Laws f) (N t : ℕ) (values : List ℕ) (cs : List Candidate) (cover : Covers f N t values cs) (coded : List Coded) (same : candidates_of coded ≡ cs)
+    (small : (i : ℕ) → i < length cs → at (codes_of coded) i < f.size) (forced : Forced f N cs values (codes_of coded)) where
+  abbrev m : ℕ
+  m = length cs
+
+  abbrev g : ℕ → ℕ
+  g = at (pages_of cs)
+
+  abbrev x : ℕ → ℕ
+  x = at (points_of cs)
+
+  abbrev v : ℕ → ℕ
+  v = at (codes_of coded)
+
   only : (e : ℕ → ℕ) → Solution f N t values e → (n : ℕ) → Page N n → e n ≡ vector m g v n
   only e sol n b = elim (among m g n) [
     | inl s ↦
@@ -83,7 +98,7 @@ module _ {f : Ops} (l : Laws f) (N t : ℕ) (values : List ℕ) (m : ℕ) (g x v
     ]
   ]
 
-  solves : Verified f m (λ k. x (k - 1)) (λ k. v (k - 1)) t values → Solution f N t values (vector m g v)
+  solves : Verified f cs (codes_of coded) t values → Solution f N t values (vector m g v)
   solves right = record {
     codes = λ n b. elim (among m g n) [
       | inl s ↦ subst (λ (y : ℕ). y < f.size) (sym (ap (vector m g v) (sym s.2) ∙ vector_at m g v cover.rising.rise s.0 s.1)) (small s.0 s.1)
@@ -93,17 +108,23 @@ module _ {f : Ops} (l : Laws f) (N t : ℕ) (values : List ℕ) (m : ℕ) (g x v
     sums = λ j b. sym (vector_sum l N g x v j m cover.rising) ∙ right.1 j b;
   }
 
+  by_candidates : (r : Bool) → Decides r (Verified f (candidates_of coded) (codes_of coded) t values) → Decides r (Verified f cs (codes_of coded) t values)
+  by_candidates r h = subst (λ ds. Decides r (Verified f ds (codes_of coded) t values)) same h
+
   -- there is no solution if these codes are too many or have other sums
-  pub unsolvable : Decides false (Verified f m (λ k. x (k - 1)) (λ k. v (k - 1)) t values) → (e : ℕ → ℕ) → Solution f N t values e → ⊥
-  unsolvable wrong e sol = not_from_Decides false wrong refl (
+  pub unsolvable : Decides false (Verified f (candidates_of coded) (codes_of coded) t values) → (e : ℕ → ℕ) → Solution f N t values e → ⊥
+  unsolvable wrong e sol = not_from_Decides false (by_candidates false wrong) refl (
     omega (arith, weight_same N e (vector m g v) (only e sol), vector_weight f N m g x v cover.rising, sol.light),
     λ j b. vector_sum l N g x v j m cover.rising
         ∙ total_same f N _ _ (λ n c. ap (λ y. f.times y (power f f.alpha (j * n))) (sym (only e sol n c))) ∙ sol.sums j b,
   )
 
-  pub solved : Decides true (Verified f m (λ k. x (k - 1)) (λ k. v (k - 1)) t values) → (k : ℕ) (list : List Entry) → m < length list → Nonzeros m g v k list → Solved f N t values k list
-  solved right k list fits h = record {
-    listed = listed f N m g x v cover.rising k list h fits;
-    solves = same_solution f N t values (vector m g v) (code_at list) (listed_is f N m g x v cover.rising k list h) (solves (right.0 refl));
-    only = λ e sol n b. only e sol n b ∙ listed_is f N m g x v cover.rising k list h n b;
-  }
+  pub solved : Decides true (Verified f (candidates_of coded) (codes_of coded) t values) → (k : ℕ) (list : List Entry) → k < length list
+      → NonzerosOf (candidates_of coded) (codes_of coded) k list → Solved f N t values k list
+  solved right k list fits found =
+      let h : Nonzeros m g v k list = subst (λ ds. NonzerosOf ds (codes_of coded) k list) same found in
+      record {
+        listed = listed f N m g x v cover.rising k list h fits;
+        solves = same_solution f N t values (vector m g v) (code_at list) (listed_is f N m g x v cover.rising k list h) (solves ((by_candidates true right).0 refl));
+        only = λ e sol n b. only e sol n b ∙ listed_is f N m g x v cover.rising k list h n b;
+      }

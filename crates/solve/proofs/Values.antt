@@ -1,10 +1,10 @@
 -- Differences by lists of values: what solves one, and how much it weighs.
-use Rattle.std.proofs.Common.{◌≡◌, ℕ, zero, suc, ◌+◌, ◌-◌, ◌<◌, ◌≤◌, List, length, get_or, take, sym, refl, ap, ◌∙◌, subst, inl, inr, arith, length-take-le, get_or-take}
-use native.Mathlib.Decide.{dec_le}
+use Rattle.std.proofs.Common.{◌≡◌, ℕ, zero, suc, ◌+◌, ◌-◌, ◌<◌, ◌≤◌, List, length, get_or, take, add-one, sym, refl, ap, ◌∙◌, subst, inl, inr, arith, length-take-le, get_or-take}
+use Rattle.std.proofs.Math.Decide.{dec_le}
 use Rattle.std.proofs.lemmas.List.{get_or_past}
 use Rattle.field.specs.Field.{Ops, Laws, page_limit, power}
 use Rattle.field.specs.Sums.{entry}
-use Rattle.algebra.specs.Vectors.{Page, counted, weight, Solves}
+use Rattle.algebra.specs.Vectors.{Page, weight, Solves}
 use Rattle.algebra.proofs.Weights.{weight_same}
 use Rattle.refusal.specs.declared.Refusal.{Refusal}
 use Rattle.refusal.specs.Rules.{Refused}
@@ -13,17 +13,14 @@ use Rattle.solve.specs.Solution.{Solution, Enough, solving}
 use Rattle.solve.specs.Answer.{blank, code_at, Listed, Solved}
 use Rattle.solve.specs.Candidates.{Rising}
 use Rattle.solve.specs.Listing.{Nonzeros}
+use Rattle.solve.proofs.Weighing.{counted_some}
 use Rattle.solve.proofs.Vectors.{vector_weight}
 use Rattle.solve.proofs.Solutions.{listed_is}
 
 -- of m codes none is 0
 full : (m : ℕ) (v : ℕ → ℕ) → ((i : ℕ) → i < m → ¬ (v i ≡ 0)) → weight m (λ k. v (k - 1)) ≡ m
 full zero v some = refl
-full (suc m) v some = one (v (suc m - 1)) (λ z. some (suc m - 1) (omega arith) z) (full m v (λ i b. some i (omega arith)))
-  where
-    one : {k : ℕ} (a : ℕ) → ¬ (a ≡ 0) → k ≡ m → counted a k ≡ suc m
-    one zero nz e = absurd (nz refl)
-    one (suc a) nz e = ap suc e
+full (suc m) v some = sym (counted_some (v (suc m - 1)) _ (some (suc m - 1) (omega arith))) ∙ add-one _ ∙ ap suc (full m v (λ i b. some i (omega arith)))
 
 module _ (f : Ops) (N m : ℕ) (list : List Entry) (h : Listed N m list) where
   rising : Rising f N m (λ i. (get_or list i blank).page) (λ i. power f f.alpha (get_or list i blank).page)

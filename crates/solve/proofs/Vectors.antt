@@ -1,8 +1,7 @@
 -- The vector that has given codes on given pages: its entries, its weight and its sums.
-use Rattle.std.proofs.Common.{◌≡◌, ℕ, zero, suc, ◌-◌, ◌*◌, ◌<◌, Bool, true, false, cond, eqb, ◌≢◌, ◌⊎◌, sym, refl, ap, ◌∙◌, ap₂, inl, inr, mul_comm, arith, eqb-true}
-use native.Mathlib.Nat.{zero-mod}
-use native.Mathlib.Decide.{ℕ_discrete}
-use borrow.Author.Tests.{eqb-false}
+use Rattle.std.proofs.Common.{◌≡◌, ℕ, zero, suc, ◌-◌, ◌*◌, ◌<◌, cond, eqb, ◌≢◌, ◌⊎◌, sym, refl, ap, ◌∙◌, ap₂, inl, inr, mul_comm, arith, eq-eqb, ne_eqb}
+use Rattle.std.proofs.Math.Nat.{zero-mod}
+use Rattle.std.proofs.Math.Decide.{ℕ_discrete}
 use Rattle.field.specs.Field.{Ops, Laws, power}
 use Rattle.field.specs.Sums.{total, power_sum}
 use Rattle.field.proofs.Laws.{code_mod, times_zero, power_mul, total_code}
@@ -17,27 +16,15 @@ vector (suc m) g v n = cond (eqb (g m) n) (v m) (vector m g v n)
 
 pub vector_off : (m : ℕ) (g v : ℕ → ℕ) (n : ℕ) → ((i : ℕ) → i < m → ¬ (g i ≡ n)) → vector m g v n ≡ 0
 vector_off zero g v n h = refl
-vector_off (suc m) g v n h = go (eqb (g m) n) refl (vector_off m g v n (λ i b. h i (omega arith)))
-  where
-    go : (b : Bool) → eqb (g m) n ≡ b → vector m g v n ≡ 0 → cond b (v m) (vector m g v n) ≡ 0
-    go true e ih = absurd (h m (omega arith) (eqb-true (g m) n e))
-    go false e ih = ih
+vector_off (suc m) g v n h = ap (λ b. cond b (v m) (vector m g v n)) (ne_eqb (g m) n (h m (omega arith))) ∙ vector_off m g v n (λ i b. h i (omega arith))
 
 -- on another page than the last
 vector_before : (m : ℕ) (g v : ℕ → ℕ) (n : ℕ) → n ≢ g m → vector (suc m) g v n ≡ vector m g v n
-vector_before m g v n d = go (eqb (g m) n) refl
-  where
-    go : (b : Bool) → eqb (g m) n ≡ b → cond b (v m) (vector m g v n) ≡ vector m g v n
-    go true e = absurd (d (sym (eqb-true (g m) n e)))
-    go false e = refl
+vector_before m g v n d = ap (λ b. cond b (v m) (vector m g v n)) (ne_eqb (g m) n (λ e. d (sym e)))
 
 -- on the last page
 vector_last : (m : ℕ) (g v : ℕ → ℕ) → vector (suc m) g v (g m) ≡ v m
-vector_last m g v = go (eqb (g m) (g m)) refl
-  where
-    go : (b : Bool) → eqb (g m) (g m) ≡ b → cond b (v m) (vector m g v (g m)) ≡ v m
-    go true e = refl
-    go false e = absurd (eqb-false (g m) (g m) e refl)
+vector_last m g v = ap (λ b. cond b (v m) (vector m g v (g m))) (eq-eqb (g m) (g m) refl)
 
 pub vector_at : (m : ℕ) (g v : ℕ → ℕ) → ((i j : ℕ) → i < j → j < m → g i < g j) → (i : ℕ) → i < m → vector m g v (g i) ≡ v i
 vector_at zero g v rise i b = absurd (omega arith)

@@ -1,26 +1,19 @@
 -- Windows of words: zeros at either end, polynomials moved up, and differences.
-use Rattle.std.proofs.Common.{◌≡◌, ℕ, zero, suc, ◌+◌, ◌-◌, ◌<◌, ◌≤◌, Bool, true, false, cond, ltb, sym, refl, ap, ◌∙◌, ap₂, arith, ltb-false, ltb-true}
-use native.Mathlib.Nat.{zero-mod}
+use Rattle.std.proofs.Common.{◌≡◌, ℕ, zero, suc, ◌+◌, ◌-◌, ◌<◌, ◌≤◌, cond, List, length, take, drop, add-one, length-take-le, get_or-take, get_or-drop, sym, refl, ap, ◌∙◌, ap₂, arith}
+use Rattle.std.proofs.lemmas.Bool.{lt-ltb, le-ltb}
+use Rattle.std.proofs.Math.Nat.{zero-mod}
 use Rattle.field.specs.Field.{Ops, Laws}
 use Rattle.field.proofs.Laws.{code_mod, zero_plus, times_zero, plus_cancel}
 use Rattle.algebra.proofs.Ring.{ring, nought, ◌⊞◌, ◌⊟◌, ◌⊠◌}
 use Rattle.algebra.proofs.Codes.{codes, el, el_plus, el_minus, el_times, el_zero, el_injective}
-use Rattle.solve.specs.Polynomials.{window, shifted}
+use Rattle.solve.specs.Polynomials.{at, window, shifted}
 use Rattle.solve.proofs.Words.{window_code}
 
-pub shifted_low : (a : ℕ) (p : ℕ → ℕ) (i : ℕ) → i < a → shifted a p i ≡ 0
-shifted_low a p i h = go (ltb i a) refl
-  where
-    go : (b : Bool) → ltb i a ≡ b → cond b 0 (p (i - a)) ≡ 0
-    go true e = refl
-    go false e = absurd (omega (arith, ltb-false i a e))
+shifted_low : (a : ℕ) (p : ℕ → ℕ) (i : ℕ) → i < a → shifted a p i ≡ 0
+shifted_low a p i h = ap (λ b. cond b 0 (p (i - a))) (lt-ltb i a h)
 
 pub shifted_high : (a : ℕ) (p : ℕ → ℕ) (i : ℕ) → a ≤ i → shifted a p i ≡ p (i - a)
-shifted_high a p i h = go (ltb i a) refl
-  where
-    go : (b : Bool) → ltb i a ≡ b → cond b 0 (p (i - a)) ≡ p (i - a)
-    go true e = absurd (omega (arith, ltb-true i a e))
-    go false e = refl
+shifted_high a p i h = ap (λ b. cond b 0 (p (i - a))) (le-ltb i a h)
 
 pub shifted_none : (p : ℕ → ℕ) (i : ℕ) → shifted 0 p i ≡ p i
 shifted_none p i = shifted_high 0 p i (omega arith) ∙ ap p (let e : i - 0 ≡ i = omega arith in e)
@@ -29,13 +22,33 @@ shifted_none p i = shifted_high 0 p i (omega arith) ∙ ap p (let e : i - 0 ≡ 
 abbrev pub Difference : Ops → ℕ → (r p : ℕ → ℕ) → (a c : ℕ) → (w : ℕ → ℕ) → ℕ → Type 0
 Difference f n r p a c w b = (i : ℕ) → i < n → r i ≡ f.minus (shifted a p i) (f.times c (shifted b w i))
 
--- the same coefficients give the same window
-window_same : (f : Ops) (k : ℕ) (p r : ℕ → ℕ) (i : ℕ) (s : ℕ → ℕ) (j i' : ℕ) → ((n : ℕ) → n < k → p (i + n) ≡ r (i' + n)) → window f k p i s j ≡ window f k r i' s j
-window_same f zero p r i s j i' h = refl
-window_same f (suc k) p r i s j i' h =
+-- the same coefficients against the same values give the same window
+window_equal : (f : Ops) (k : ℕ) (p r : ℕ → ℕ) (i i' : ℕ) (s u : ℕ → ℕ) (j j' : ℕ) → ((n : ℕ) → n < k → p (i + n) ≡ r (i' + n)) → ((n : ℕ) → n < k → s (j + n) ≡ u (j' + n))
+    → window f k p i s j ≡ window f k r i' u j'
+window_equal f zero p r i i' s u j j' h v = refl
+window_equal f (suc k) p r i i' s u j j' h v =
     let here : p i ≡ r i' = ap p (let e : i ≡ i + 0 = omega arith in e) ∙ h 0 (omega arith) ∙ ap r (let e : i' + 0 ≡ i' = omega arith in e) in
-    ap₂ (λ x y. f.plus (f.times x (s j)) y) here
-    (window_same f k p r (suc i) s (suc j) (suc i') (λ n b. ap p (let e : suc i + n ≡ i + suc n = omega arith in e) ∙ h (suc n) (omega arith) ∙ ap r (let e : i' + suc n ≡ suc i' + n = omega arith in e)))
+    let value : s j ≡ u j' = ap s (let e : j ≡ j + 0 = omega arith in e) ∙ v 0 (omega arith) ∙ ap u (let e : j' + 0 ≡ j' = omega arith in e) in
+    ap₂ f.plus (ap₂ f.times here value)
+    (window_equal f k p r (suc i) (suc i') s u (suc j) (suc j')
+    (λ n b. ap p (let e : suc i + n ≡ i + suc n = omega arith in e) ∙ h (suc n) (omega arith) ∙ ap r (let e : i' + suc n ≡ suc i' + n = omega arith in e))
+    (λ n b. ap s (let e : suc j + n ≡ j + suc n = omega arith in e) ∙ v (suc n) (omega arith) ∙ ap u (let e : j' + suc n ≡ suc j' + n = omega arith in e)))
+
+window_same : (f : Ops) (k : ℕ) (p r : ℕ → ℕ) (i : ℕ) (s : ℕ → ℕ) (j i' : ℕ) → ((n : ℕ) → n < k → p (i + n) ≡ r (i' + n)) → window f k p i s j ≡ window f k r i' s j
+window_same f k p r i s j i' h = window_equal f k p r i i' s s j j h (λ n b. refl)
+
+-- the first d + 1 coefficients
+pub window_front_of : (f : Ops) (p : List ℕ) (s : ℕ → ℕ) (d j : ℕ) → d < length p → window f (length (take (d + 1) p)) (at (take (d + 1) p)) 0 s j ≡ window f (suc d) (at p) 0 s j
+window_front_of f p s d j lt =
+    ap (λ n. window f n (at (take (d + 1) p)) 0 s j) (length-take-le (d + 1) p (omega arith) ∙ add-one d)
+    ∙ window_same f (suc d) (at (take (d + 1) p)) (at p) 0 s j 0 (λ n b. get_or-take (d + 1) p (0 + n) 0 (omega arith))
+
+-- and against n values from place k on
+pub window_cut : (f : Ops) (p vs : List ℕ) (d k n : ℕ) → d < length p → d < n → window f (length (take (d + 1) p)) (at (take (d + 1) p)) 0 (at (take n (drop k vs))) 0 ≡ window f (suc d) (at p) 0 (at vs) k
+window_cut f p vs d k n lt long =
+    window_front_of f p (at (take n (drop k vs))) d 0 lt
+    ∙ window_equal f (suc d) (at p) (at p) 0 0 (at (take n (drop k vs))) (at vs) 0 k (λ i b. refl)
+    (λ i b. get_or-take n (drop k vs) (0 + i) 0 (omega arith) ∙ get_or-drop k vs (0 + i) 0 ∙ ap (at vs) (let e : k + (0 + i) ≡ k + i = omega arith in e))
 
 module _ {f : Ops} (l : Laws f) where
   pub minus_zero : (x : ℕ) → x < f.size → f.minus x 0 ≡ x

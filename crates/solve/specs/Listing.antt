@@ -1,6 +1,9 @@
 -- Listing the codes that are not 0.
-use Rattle.std.specs.Prelude.{◌≡◌, ℕ, ◌<◌, ◌≤◌, List, get_or, slice_index_or}
+use Rattle.std.specs.Prelude.{◌≡◌, ℕ, ◌<◌, ◌≤◌, List, length, get_or, slice_index_or}
 use Rattle.solve.specs.declared.Entry.{Entry}
+use Rattle.solve.specs.declared.candidates.Candidate.{Candidate}
+use Rattle.solve.specs.Polynomials.{at}
+use Rattle.solve.specs.Candidates.{pages_of}
 use Rattle.solve.specs.Answer.{blank}
 
 -- place i of the list has page g j and code v j, for some j below m
@@ -15,3 +18,6 @@ pub record Nonzeros (m : ℕ) (g v : ℕ → ℕ) (k : ℕ) (list : List Entry) 
   pub some : (i : ℕ) → i < k → ¬ ((get_or list i blank).code ≡ 0)
   pub all : (j : ℕ) → j < m → ¬ (v j ≡ 0) → (i : ℕ) × (i < k) × ((get_or list i blank).page ≡ g j)
   pub rest : (i : ℕ) → k ≤ i → slice_index_or list i blank ≡ blank
+
+abbrev pub NonzerosOf : List Candidate → List ℕ → ℕ → List Entry → Type 0
+NonzerosOf cs codes k list = Nonzeros (length cs) (at (pages_of cs)) (at codes) k list

@@ -1,5 +1,5 @@
 -- Polynomials by their coefficients, as functions of the place, the constant at place 0; and what locates and what has given roots.
-use Rattle.std.specs.Prelude.{◌≡◌, ℕ, zero, suc, ◌-◌, ◌<◌, ◌≤◌, cond, List, nat_lt, slice_index}
+use Rattle.std.specs.Prelude.{◌≡◌, ℕ, zero, suc, ◌-◌, ◌<◌, ◌≤◌, cond, List, length, nat_lt, slice_index}
 use Rattle.field.specs.Field.{Ops}
 
 -- what stands at place i, from 0
@@ -24,13 +24,13 @@ shifted a p i = cond (nat_lt i a) 0 (p (i - a))
 abbrev pub quotient : Ops → ℕ → (ℕ → ℕ) → ℕ → ℕ → ℕ
 quotient f m p a k = value f (m - k) p (suc k) a
 
--- p, of k coefficients, locates t pages: monic, of degree at most t, and 0 against each of the first t windows of s
-pub record Locates (f : Ops) (t : ℕ) (s p : ℕ → ℕ) (k : ℕ) : Type 0 where
+-- p locates t pages: monic, of degree at most t, and 0 against each of the first t windows of s
+pub record Locates (f : Ops) (t : ℕ) (s : ℕ → ℕ) (p : List ℕ) : Type 0 where
   pub degree : ℕ
-  pub terms : k ≡ suc degree
+  pub terms : length p ≡ suc degree
   pub short : degree ≤ t
-  pub monic : p degree ≡ 1
-  pub clears : (j : ℕ) → j < t → window f k p 0 s j ≡ 0
+  pub monic : at p degree ≡ 1
+  pub clears : (j : ℕ) → j < t → window f (length p) (at p) 0 s j ≡ 0
 
 -- p is monic of degree m, with x 0 .. x (m - 1) for roots
 pub record Product (f : Ops) (m : ℕ) (x p : ℕ → ℕ) : Type 0 where

@@ -31,9 +31,9 @@ pub fn solve<F: Field>(
 {
     accept::<F>(pages, values, weight)?;
     let candidates = choose::<F>(pages, values, weight);
-    let codes = interpolate::<F>(&candidates, values);
-    if verified::<F>(&candidates, &codes, values, weight) {
-        Ok(Some(list_nonzeros(&candidates, &codes, list)))
+    let coded = interpolate::<F>(&candidates, values);
+    if verified::<F>(&coded, values, weight) {
+        Ok(Some(list_nonzeros(&coded, list)))
     } else {
         Ok(None)
     }
@@ -48,10 +48,8 @@ fn accept<F: Field>(pages: usize, values: &[u32], weight: usize) -> Result<(), R
     if !enough || values.len() > SUM_LIMIT {
         return Err(Refusal::Size(Limit::Sums));
     }
-    for j in 0..values.len() {
-        if values[j] >= F::SIZE {
-            return Err(Refusal::Garbled(j + 1));
-        }
+    match values.iter().position(|value| *value >= F::SIZE) {
+        Some(before) => Err(Refusal::Garbled(before + 1)),
+        None => Ok(()),
     }
-    Ok(())
 }

@@ -1,61 +1,52 @@
 // Candidates: pages on which every solution has all its entries.
 ghost use Rattle.std.specs.Prelude.{◌≡◌, ◌+◌, ◌≤◌, ◌⊎◌, length};
 ghost use Rattle.solve.specs.Polynomials.{at, value};
-ghost use Rattle.solve.specs.Candidates.{Roots, FewRoots, Covers};
+ghost use Rattle.solve.specs.Candidates.{FewRoots, Roots, Covers};
 
-use crate::locator::{Locator, locate};
+use crate::locator::locate;
 use crate::polynomial::evaluate;
+use arrayvec::ArrayVec;
 use field::Field;
 
-// So many pages, rising, with their points.
-#[derive(Drop)]
-pub(crate) struct Candidates {
-    pub pages: [usize; 129],
-    pub points: [u32; 129],
-    pub count: usize,
-    ghost pages_full: { length pages ≡ 129 },
-    ghost points_full: { length points ≡ 129 },
-    ghost few: { count ≤ 128 },
+// A page, with its point.
+#[derive(Clone, Copy, Default)]
+pub(crate) struct Candidate {
+    pub page: usize,
+    pub point: u32,
 }
 
 // Pages that hold each entry of each solution: all of them, or those that a locator finds.
-pub(crate) fn choose<F: Field>(pages: usize, values: &[u32], weight: usize) -> Candidates
+pub(crate) fn choose<F: Field>(
+    pages: usize,
+    values: &[u32],
+    weight: usize,
+) -> ArrayVec<Candidate, 128>
     requires few_pages { pages ≤ F.Field.ops.places }
     requires few_values { length values.now ≤ 128 }
     requires enough { (length values.now ≡ pages) ⊎ (weight + weight ≤ length values.now) }
-    ensures { Covers F.Field.ops pages weight values.now result.count (at result.pages) (at result.points) }
+    ensures { Covers F.Field.ops pages weight values.now result.items }
 {
     if values.len() == pages {
-        let everywhere = Locator {
-            coefficients: [0; 129],
-            terms: 0,
-        };
-        return roots::<F>(&everywhere, pages);
+        return roots::<F>(&[], pages);
     }
-    let locator = locate::<F>(values, weight);
-    roots::<F>(&locator, pages)
+    roots::<F>(&locate::<F>(values, weight), pages)
 }
 
-// The pages of 1 to `pages` at whose points the locator is 0.
-fn roots<F: Field>(locator: &Locator, pages: usize) -> Candidates
-    requires { FewRoots F.Field.ops (value F.Field.ops locator.now.terms (at locator.now.coefficients) 0) pages }
-    ensures { Roots F.Field.ops (value F.Field.ops locator.now.terms (at locator.now.coefficients) 0) pages result.count (at result.pages) (at result.points) }
+// The pages of 1 to `pages`, rising, at whose points the locator is 0.
+fn roots<F: Field>(locator: &[u32], pages: usize) -> ArrayVec<Candidate, 128>
+    requires { FewRoots F.Field.ops (value F.Field.ops (length locator.now) (at locator.now) 0) pages }
+    ensures { Roots F.Field.ops (value F.Field.ops (length locator.now) (at locator.now) 0) pages result.items }
 {
-    let mut found = [0; 129];
-    let mut points = [0; 129];
-    let mut count = 0;
-    let mut x = 1;
+    let mut found = ArrayVec::new();
+    let mut point = 1;
     for before in 0..pages {
-        x = F::mul(x, F::ALPHA);
-        if evaluate::<F>(&locator.coefficients, locator.terms, x) == 0 {
-            found[count] = before + 1;
-            points[count] = x;
-            count += 1;
+        point = F::mul(point, F::ALPHA);
+        if evaluate::<F>(locator, point) == 0 {
+            found.push(Candidate {
+                page: before + 1,
+                point,
+            });
         }
     }
-    Candidates {
-        pages: found,
-        points,
-        count,
-    }
+    found
 }

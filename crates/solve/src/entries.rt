@@ -1,51 +1,68 @@
 // The codes at the candidates that the sums force.
 ghost use Rattle.std.specs.Prelude.{◌≡◌, ℕ, ◌<◌, ◌≤◌, length};
 ghost use Rattle.solve.specs.Polynomials.{at, interpolated, Product};
-ghost use Rattle.solve.specs.Candidates.{Rising, Forced};
+ghost use Rattle.solve.specs.Candidates.{points_of, candidates_of, codes_of, RisingIn, Forced};
 
-use crate::candidates::Candidates;
+use crate::candidates::Candidate;
 use crate::polynomial::combine;
+use arrayvec::ArrayVec;
 use field::Field;
 
-// A code for each candidate: what each vector has there that has the values for its first sums and is 0 elsewhere.
-pub(crate) fn interpolate<F: Field>(candidates: &Candidates, values: &[u32]) -> [u32; 129]
-    requires { candidates.now.count ≤ length values.now }
-    ensures codes { (i : ℕ) → i < candidates.now.count → at result i < F.Field.ops.size }
-    ensures forced { (N : ℕ) → N ≤ F.Field.ops.places → Rising F.Field.ops N candidates.now.count (at candidates.now.pages) (at candidates.now.points)
-        → Forced F.Field.ops N candidates.now.count (at candidates.now.pages) values.now (at result) }
-{
-    let product = product::<F>(&candidates.points, candidates.count);
-    let mut codes = [0; 129];
-    for i in 0..candidates.count {
-        codes[i] = entry::<F>(&product, candidates.count, candidates.points[i], values);
-    }
-    codes
+// A candidate, with the code that is forced there.
+#[derive(Clone, Copy, Default)]
+pub(crate) struct Coded {
+    pub candidate: Candidate,
+    pub code: u32,
 }
 
-// The product of x - point over the first `count` points.
-fn product<F: Field>(points: &[u32; 129], count: usize) -> [u32; 129]
-    requires { count ≤ 128 }
-    ensures { Product F.Field.ops count (at points.now) (at result) }
+// A code for each candidate: what each vector has there that has the values for its first sums and is 0 elsewhere.
+pub(crate) fn interpolate<F: Field>(
+    candidates: &ArrayVec<Candidate, 128>,
+    values: &[u32],
+) -> ArrayVec<Coded, 128>
+    requires { length candidates.now.items ≤ length values.now }
+    ensures candidates { candidates_of result.items ≡ candidates.now.items }
+    ensures codes { (i : ℕ) → i < length candidates.now.items → at (codes_of result.items) i < F.Field.ops.size }
+    ensures forced { (N : ℕ) → N ≤ F.Field.ops.places
+        → RisingIn F.Field.ops N candidates.now.items → Forced F.Field.ops N candidates.now.items values.now (codes_of result.items) }
+{
+    let candidates = candidates.as_slice();
+    let product = product::<F>(candidates);
+    let values = &values[..candidates.len()];
+    let mut coded = ArrayVec::new();
+    for candidate in candidates {
+        coded.push(Coded {
+            candidate: *candidate,
+            code: entry::<F>(&product, candidate.point, values),
+        });
+    }
+    coded
+}
+
+// The product of x - point over the candidates' points.
+fn product<F: Field>(candidates: &[Candidate]) -> [u32; 129]
+    requires { length candidates.now ≤ 128 }
+    ensures { Product F.Field.ops (length candidates.now) (at (points_of candidates.now)) (at result) }
 {
     let mut product = [0; 129];
     product[0] = 1;
-    for i in 0..count {
-        product = combine::<F>(&product, 1, points[i], &product, 0);
+    for candidate in candidates {
+        product = combine::<F>(&product, 1, candidate.point, &product, 0);
     }
     product
 }
 
-// The entry at the point x of a vector whose entries are at the roots of the product, `count` of them.
+// The entry at the point x of a vector whose entries are at the roots of the product, as many as there are values.
 // `quotient` runs over the coefficients of the product divided by its root x, from the highest on.
-fn entry<F: Field>(product: &[u32; 129], count: usize, x: u32, values: &[u32]) -> u32
-    requires few { count ≤ 128 }
-    requires values_reach { count ≤ length values.now }
-    ensures { result ≡ interpolated F.Field.ops count (at product.now) x (at values.now) }
+fn entry<F: Field>(product: &[u32; 129], x: u32, values: &[u32]) -> u32
+    requires { length values.now ≤ 128 }
+    ensures { result ≡ interpolated F.Field.ops (length values.now) (at product.now) x (at values.now) }
 {
     let mut quotient = 0;
     let mut against_values = 0;
     let mut at_x = 0;
-    for k in (0..count).rev() {
+    // By index: both rows are read from the end, one a place apart from the other, and the product's row may be longer.
+    for k in (0..values.len()).rev() {
         quotient = F::mul_add(quotient, x, product[k + 1]);
         against_values = F::mul_add(quotient, values[k], against_values);
         at_x = F::mul_add(at_x, x, quotient);

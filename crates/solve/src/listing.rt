@@ -1,28 +1,28 @@
 // Listing the codes that are not 0.
-ghost use Rattle.std.specs.Prelude.{ℕ, ◌<◌};
+ghost use Rattle.std.specs.Prelude.{ℕ, ◌<◌, ◌≤◌, length};
 ghost use Rattle.solve.specs.Polynomials.{at};
-ghost use Rattle.solve.specs.Listing.{Nonzeros};
+ghost use Rattle.solve.specs.Candidates.{pages_of, candidates_of, codes_of};
+ghost use Rattle.solve.specs.Listing.{NonzerosOf};
 
 use crate::Entry;
-use crate::candidates::Candidates;
+use crate::entries::Coded;
+use arrayvec::ArrayVec;
 
 // Puts the candidates whose codes are not 0 into the list, and blank entries after them: how many.
-pub(crate) fn list_nonzeros(
-    candidates: &Candidates,
-    codes: &[u32; 129],
-    list: &mut [Entry; 129],
-) -> usize
-    requires { (i j : ℕ) → i < j → j < candidates.now.count → at candidates.now.pages i < at candidates.now.pages j }
-    ensures { Nonzeros candidates.now.count (at candidates.now.pages) (at codes.now) result list.new }
+pub(crate) fn list_nonzeros(coded: &ArrayVec<Coded, 128>, list: &mut [Entry; 129]) -> usize
+    requires { (i j : ℕ) → i < j → j < length (candidates_of coded.now.items) → at (pages_of (candidates_of coded.now.items)) i < at (pages_of (candidates_of coded.now.items)) j }
+    ensures fits { result < length list.new }
+    ensures listed { NonzerosOf (candidates_of coded.now.items) (codes_of coded.now.items) result list.new }
 {
+    let coded = coded.as_slice();
     *list = [Entry { page: 0, code: 0 }; 129];
+    // Counted by hand: after a chain that writes into the list nothing is known of what the list holds.
     let mut listed = 0;
-    for i in 0..candidates.count {
-        let code = codes[i];
-        if code != 0 {
+    for term in coded {
+        if term.code != 0 {
             list[listed] = Entry {
-                page: candidates.pages[i],
-                code,
+                page: term.candidate.page,
+                code: term.code,
             };
             listed += 1;
         }

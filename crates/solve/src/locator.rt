@@ -3,24 +3,16 @@ ghost use Rattle.std.specs.Prelude.{◌≡◌, ◌+◌, ◌≤◌, length};
 ghost use Rattle.solve.specs.Polynomials.{at, Locates};
 
 use crate::polynomial::{against, combine};
+use arrayvec::ArrayVec;
 use field::Field;
-
-// The first `terms` coefficients count. With no terms it is 0 everywhere.
-#[derive(Drop)]
-pub(crate) struct Locator {
-    pub coefficients: [u32; 129],
-    pub terms: usize,
-    ghost full: { length coefficients ≡ 129 },
-    ghost short: { terms ≤ 129 },
-}
 
 // A locator of each solution with at most `weight` pages, from the first 2 weight sums.
 // At each turn `locator` is monic of `degree` and 0 against the first `cleared` windows of the values; `previous` is 0 against the
 // first degree - 1, and comes to `divisor` against the next. A window is as many values in a row as there are coefficients.
-pub(crate) fn locate<F: Field>(values: &[u32], weight: usize) -> Locator
+pub(crate) fn locate<F: Field>(values: &[u32], weight: usize) -> ArrayVec<u32, 129>
     requires light { weight ≤ 64 }
     requires values_reach { weight + weight ≤ length values.now }
-    ensures { Locates F.Field.ops weight (at values.now) (at result.coefficients) result.terms }
+    ensures { Locates F.Field.ops weight (at values.now) result.items }
 {
     let mut locator = [0; 129];
     locator[0] = 1;
@@ -29,7 +21,7 @@ pub(crate) fn locate<F: Field>(values: &[u32], weight: usize) -> Locator
     let mut degree = 0;
     let mut cleared = 0;
     while cleared < weight {
-        let discrepancy = against::<F>(&locator, degree + 1, values, cleared);
+        let discrepancy = against::<F>(&locator[..degree + 1], &values[cleared..]);
         if discrepancy == 0 {
             cleared += 1;
         } else {
@@ -48,8 +40,7 @@ pub(crate) fn locate<F: Field>(values: &[u32], weight: usize) -> Locator
             }
         }
     }
-    Locator {
-        coefficients: locator,
-        terms: degree + 1,
-    }
+    let mut coefficients = ArrayVec::from(locator);
+    coefficients.truncate(degree + 1);
+    coefficients
 }

@@ -1,37 +1,28 @@
 // Polynomials by their coefficients, the constant first.
-ghost use Rattle.std.specs.Prelude.{◌≡◌, ℕ, ◌+◌, ◌<◌, ◌≤◌, length};
+ghost use Rattle.std.specs.Prelude.{◌≡◌, ℕ, ◌<◌, ◌≤◌, length};
 ghost use Rattle.solve.specs.Polynomials.{at, value, window, shifted};
 
 use field::Field;
 
-// The first `terms` coefficients, at x.
-pub(crate) fn evaluate<F: Field>(coefficients: &[u32; 129], terms: usize, x: u32) -> u32
-    requires { terms ≤ 129 }
-    ensures { result ≡ value F.Field.ops terms (at coefficients.now) 0 x }
+// The polynomial with these coefficients, at x.
+pub(crate) fn evaluate<F: Field>(coefficients: &[u32], x: u32) -> u32
+    ensures { result ≡ value F.Field.ops (length coefficients.now) (at coefficients.now) 0 x }
 {
-    let mut sum = 0;
-    for i in (0..terms).rev() {
-        sum = F::mul_add(sum, x, coefficients[i]);
-    }
-    sum
+    coefficients
+        .iter()
+        .rev()
+        .fold(0, |sum, coefficient| F::mul_add(sum, x, *coefficient))
 }
 
-// The first `terms` coefficients, against the values from place `from` on.
-pub(crate) fn against<F: Field>(
-    coefficients: &[u32; 129],
-    terms: usize,
-    values: &[u32],
-    from: usize,
-) -> u32
-    requires few_terms { terms ≤ 129 }
-    requires values_reach { from + terms ≤ length values.now }
-    ensures { result ≡ window F.Field.ops terms (at coefficients.now) 0 (at values.now) from }
+// The coefficients, against as many values.
+pub(crate) fn against<F: Field>(coefficients: &[u32], values: &[u32]) -> u32
+    requires { length coefficients.now ≤ length values.now }
+    ensures { result ≡ window F.Field.ops (length coefficients.now) (at coefficients.now) 0 (at values.now) 0 }
 {
-    let mut sum = 0;
-    for i in (0..terms).rev() {
-        sum = F::mul_add(coefficients[i], values[from + i], sum);
-    }
-    sum
+    coefficients.iter().zip(values).fold(
+        0,
+        |sum, (coefficient, value)| F::mul_add(*coefficient, *value, sum),
+    )
 }
 
 // The coefficient at place i of x^a p.
@@ -53,8 +44,8 @@ pub(crate) fn combine<F: Field>(
     ensures { (i : ℕ) → i < 129 → at result i ≡ F.Field.ops.minus (shifted a (at p.now) i) (F.Field.ops.times c (shifted b (at w.now) i)) }
 {
     let mut difference = [0; 129];
-    for i in 0..129 {
-        difference[i] = minus_multiple::<F>(coefficient(p, a, i), c, coefficient(w, b, i));
+    for (i, place) in difference.iter_mut().enumerate() {
+        *place = minus_multiple::<F>(coefficient(p, a, i), c, coefficient(w, b, i));
     }
     difference
 }

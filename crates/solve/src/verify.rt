@@ -1,48 +1,41 @@
 // Verifying codes at the candidates: their weight and their sums.
-ghost use Rattle.std.specs.Prelude.{◌≡◌, ℕ, ◌<◌, ◌≤◌, Decides};
+ghost use Rattle.std.specs.Prelude.{◌≡◌, ◌≤◌, map, length, Decides};
 ghost use Rattle.field.specs.Sums.{entry, total};
 ghost use Rattle.algebra.specs.Vectors.{weight as weight-of};
-ghost use Rattle.solve.specs.Polynomials.{at};
-ghost use Rattle.solve.specs.Candidates.{HasSums, Verified};
+ghost use Rattle.solve.specs.Candidates.{candidates_of, codes_of, raised, HasSums, Verified};
 
-use crate::candidates::Candidates;
+use crate::entries::Coded;
+use arrayvec::ArrayVec;
 use field::Field;
 
 // Whether the codes at the candidates are a solution: at most `weight` are not 0, and the values are their sums.
 pub(crate) fn verified<F: Field>(
-    candidates: &Candidates,
-    codes: &[u32; 129],
+    coded: &ArrayVec<Coded, 128>,
     values: &[u32],
     weight: usize,
 ) -> bool
-    requires { (i : ℕ) → i < candidates.now.count → at codes.now i < F.Field.ops.size }
-    ensures { Decides result (Verified F.Field.ops candidates.now.count (entry candidates.now.points) (entry codes.now) weight values.now) }
+    ensures { Decides result (Verified F.Field.ops (candidates_of coded.now.items) (codes_of coded.now.items) weight values.now) }
 {
-    weigh(codes, candidates.count) <= weight && has_sums::<F>(candidates, codes, values)
+    weigh(coded) <= weight && has_sums::<F>(coded, values)
 }
 
-// How many of the first `count` codes are not 0.
-fn weigh(codes: &[u32; 129], count: usize) -> usize
-    requires { count ≤ 128 }
-    ensures { result ≡ weight-of count (entry codes.now) }
+// How many of the codes are not 0.
+fn weigh(coded: &[Coded]) -> usize
+    ensures { result ≡ weight-of (length (candidates_of coded.now)) (entry (codes_of coded.now)) }
 {
-    let mut nonzeros = 0;
-    for i in 0..count {
-        if codes[i] != 0 {
-            nonzeros += 1;
-        }
-    }
-    nonzeros
+    coded.iter().filter(|coded| coded.code != 0).count()
 }
 
 // Whether the codes at the candidates have the values for their sums. A term is a code times a power of its point.
-fn has_sums<F: Field>(candidates: &Candidates, codes: &[u32; 129], values: &[u32]) -> bool
-    requires { (i : ℕ) → i < candidates.now.count → at codes.now i < F.Field.ops.size }
-    ensures { Decides result (HasSums F.Field.ops candidates.now.count (entry candidates.now.points) (entry codes.now) values.now) }
+fn has_sums<F: Field>(coded: &[Coded], values: &[u32]) -> bool
+    requires { length coded.now ≤ 128 }
+    ensures { Decides result (HasSums F.Field.ops (candidates_of coded.now) (codes_of coded.now) values.now) }
 {
-    let mut terms = *codes;
-    for j in 0..values.len() {
-        if next_sum::<F>(&mut terms, &candidates.points, candidates.count) != values[j] {
+    let mut room = [Coded::default(); 128];
+    let terms = &mut room[..coded.len()];
+    terms.copy_from_slice(coded);
+    for value in values {
+        if next_sum::<F>(terms) != *value {
             return false;
         }
     }
@@ -50,16 +43,14 @@ fn has_sums<F: Field>(candidates: &Candidates, codes: &[u32; 129], values: &[u32
 }
 
 // Multiplies each term by its point, and adds them up.
-fn next_sum<F: Field>(terms: &mut [u32; 129], points: &[u32; 129], count: usize) -> u32
-    requires { count ≤ 128 }
-    ensures moved { (i : ℕ) → i < count → at terms.new i ≡ F.Field.ops.times (at terms.old i) (at points.now i) }
-    ensures sum { result ≡ total F.Field.ops count (λ k. F.Field.ops.times (entry terms.old k) (entry points.now k)) }
+fn next_sum<F: Field>(terms: &mut [Coded]) -> u32
+    ensures raised { terms.new ≡ map (raised F.Field.ops) terms.old }
+    ensures sum { result ≡ total F.Field.ops (length terms.old) (entry (codes_of terms.new)) }
 {
     let mut sum = 0;
-    for i in 0..count {
-        let term = F::mul(terms[i], points[i]);
-        terms[i] = term;
-        sum = F::add(sum, term);
+    for term in terms.iter_mut() {
+        term.code = F::mul(term.code, term.candidate.point);
+        sum = F::add(sum, term.code);
     }
     sum
 }

@@ -1,8 +1,8 @@
-use Rattle.std.proofs.Common.{◌≡◌, ℕ, ◌<◌, length}
+use Rattle.std.proofs.Common.{◌≡◌, map, take, length}
 use Rattle.solve.specs.Polynomials.{at, interpolated}
+use Rattle.solve.proofs.Coding.{coded_by}
 use Rattle.solve.proofs.entries.interpolate.Given as goal
 
-abbrev pub invariant-loop-i : goal.invariant-loop-i
-invariant-loop-i g l =
-    (length l.codes ≡ 129)
-    × ((i : ℕ) → i < l.i → at l.codes i ≡ interpolated g.F.Field.ops l.candidates.count (at l.product) (at l.candidates.points i) (at l.values))
+abbrev pub invariant-loop-candidate : goal.invariant-loop-candidate
+invariant-loop-candidate g l =
+    l.coded.items ≡ map (coded_by (λ x. interpolated g.F.Field.ops (length l.values) (at l.product) x (at l.values))) (take l.candidate-index l.candidates)

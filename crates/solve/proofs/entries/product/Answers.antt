@@ -1,16 +1,24 @@
-use Rattle.std.proofs.Common.{◌≡◌, set, replicate, refl, arith, rules}
-use Rattle.solve.specs.Polynomials.{at}
+use Rattle.std.proofs.Common.{◌≡◌, length, set, replicate, refl, sym, ap, ◌∙◌, arith}
+use Rattle.std.proofs.lemmas.List.{get_or-map}
+use Rattle.solve.specs.Polynomials.{at, shifted}
+use Rattle.solve.specs.Candidates.{points_of}
 use Rattle.solve.proofs.Products.{first, next, last}
 use Rattle.solve.proofs.Arrays.{one_first}
 use Rattle.solve.proofs.entries.product.Goals as goal
 
-pub loop-i-init : goal.loop-i-init
-loop-i-init g c = (refl, first g.met.F.Field.lawful (at c.args.points.now) (at (set (replicate 129 0) 0 1)) refl (λ i lo hi. one_first 129 i lo hi))
+pub loop-candidate-init : goal.loop-candidate-init
+loop-candidate-init g c = first g.met.F.Field.lawful (at (points_of c.args.candidates.now)) (at (set (replicate 129 0) 0 1)) refl (one_first 129)
 
-pub loop-i-preserved : goal.loop-i-preserved
-loop-i-preserved g c = (search rules, next g.met.F.Field.lawful c.loop-i.i (at c.args.points.now) _ _ (omega arith) c.loop-i.invariant.1 (λ i b. c.combine-product.ensures i b))
+pub loop-candidate-preserved : goal.loop-candidate-preserved
+loop-candidate-preserved g c =
+    let f = g.F.Field.ops in
+    let cs = c.args.candidates.now in
+    let p = at c.loop-candidate.product in
+    let m = c.loop-candidate.candidate-index in
+    next g.met.F.Field.lawful m (at (points_of cs)) p (at c.combine-product.result) (omega arith) c.loop-candidate.invariant
+    (λ i b. c.combine-product.ensures i b ∙ ap (λ z. f.minus (shifted 1 p i) (f.times z (shifted 0 p i))) (sym (get_or-map (λ c. c.point) cs m _ 0 c.loop-candidate-test.true)))
 
 pub returns : goal.returns
 returns g c =
-    let e : c.args.count ≡ c.loop-i.i = omega arith in
-    rw e (last g.met.F.Field.lawful c.loop-i.i (at c.args.points.now) _ (omega arith) c.loop-i.invariant.1)
+    let e : length c.args.candidates.now ≡ c.loop-candidate.candidate-index = omega arith in
+    rw e (last g.met.F.Field.lawful c.loop-candidate.candidate-index (at (points_of c.args.candidates.now)) _ (omega arith) c.loop-candidate.invariant)

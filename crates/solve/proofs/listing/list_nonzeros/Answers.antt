@@ -1,11 +1,14 @@
-use Rattle.std.proofs.Common.{◌≡◌, ℕ, zero, suc, ◌+◌, ◌<◌, List, length, get_or, set, replicate, sym, refl, ap, ◌∙◌, subst, arith, get_or-set_other, get_or-set_same}
+use Rattle.std.proofs.Common.{◌≡◌, ℕ, zero, suc, ◌+◌, ◌<◌, List, length, get_or, set, replicate, sym, refl, ap, ◌∙◌, ap₂, subst, arith, get_or-set_other, get_or-set_same}
 use Rattle.solve.specs.declared.Entry.{Entry}
 use Rattle.solve.specs.Polynomials.{at}
+use Rattle.solve.specs.Candidates.{pages_of, candidates_of, codes_of}
 use Rattle.solve.specs.Answer.{blank}
 use Rattle.solve.specs.Listing.{Nonzeros}
 use Rattle.solve.proofs.Listings.{none_listed, leave, put}
+use Rattle.std.proofs.lemmas.List.{length-map}
+use Rattle.solve.proofs.Coding.{page_is, code_is}
 use Rattle.solve.proofs.listing.list_nonzeros.Goals as goal
-use Rattle.solve.proofs.listing.list_nonzeros.Goals.{then-code-ne0, else-code-ne0}
+use Rattle.solve.proofs.listing.list_nonzeros.Goals.{then-term-ne0, else-term-ne0}
 
 blanks : (n i : ℕ) → get_or (replicate n blank) i blank ≡ blank
 blanks zero i = refl
@@ -24,24 +27,32 @@ written m k k' g v list list' rise fits h some ek el =
 left : (m k k' : ℕ) (g v : ℕ → ℕ) (list list' : List Entry) → Nonzeros m g v k list → k' ≡ k → list' ≡ list → Nonzeros m g v k' list'
 left m k k' g v list list' h ek el = subst (λ (n : ℕ). Nonzeros m g v n list') (sym ek) (subst (λ L. Nonzeros m g v k L) (sym el) h)
 
-pub loop-i-init : goal.loop-i-init
-loop-i-init c = (omega arith, refl, none_listed (at c.args.candidates.now.pages) (at c.args.codes.now) (replicate 129 blank) (blanks 129))
+pub loop-term-init : goal.loop-term-init
+loop-term-init c = record {
+  long = refl;
+  listed = none_listed (at (pages_of (candidates_of c.as_slice-coded.result.now))) (at (codes_of c.as_slice-coded.result.now)) (replicate 129 blank) (blanks 129);
+}
 
-pub loop-i-preserved : goal.loop-i-preserved
-loop-i-preserved c =
-    let i = c.loop-i.i in
-    let k = c.loop-i.listed in
-    let g = at c.args.candidates.now.pages in
-    let v = at c.args.codes.now in
-    let short = c.loop-i.invariant.0 in
-    let long = c.loop-i.invariant.1 in
-    let h = c.loop-i.invariant.2 in
-    elim c.if-code-ne0.branch [
-      | then-code-ne0 w ↦ (let e = w.listed-is in (
-        omega arith,
-        c.if-code-ne0.array_long,
-        written i k c.if-code-ne0.listed g v c.loop-i.list c.if-code-ne0.list (λ j b. c.requires j i b c.loop-i-test.true) (omega arith) h w.if-code-ne0.true w.listed-is w.list-is,
-      ))
-      | else-code-ne0 w ↦ (let e = w.listed-is in
-          (omega arith, c.if-code-ne0.array_long, left (i + 1) k c.if-code-ne0.listed g v c.loop-i.list c.if-code-ne0.list (leave i g v k c.loop-i.list h w.if-code-ne0.false) w.listed-is w.list-is))
-    ]
+pub loop-term-preserved : goal.loop-term-preserved
+loop-term-preserved c =
+    let cs = c.as_slice-coded.result.now in
+    let i = c.loop-term.term-index in
+    let k = c.loop-term.listed in
+    let list = c.loop-term.list in
+    let g = at (pages_of (candidates_of cs)) in
+    let v = at (codes_of cs) in
+    let in_cs = c.loop-term-test.true in
+    let long = c.loop-term.invariant.long in
+    let h = c.loop-term.invariant.listed in
+    let few = h.few in
+    let code = code_is cs i in_cs in
+    let rise = subst (λ cs. (i j : ℕ) → i < j → j < length (candidates_of cs) → at (pages_of (candidates_of cs)) i < at (pages_of (candidates_of cs)) j) (sym c.as_slice-coded.ensures.value) c.requires in
+    let fits = c.as_slice-coded.ensures.fits in
+    record {
+      long = c.if-term-ne0.array_long;
+      listed = elim c.if-term-ne0.branch [
+        | then-term-ne0 w ↦ written i k c.if-term-ne0.listed g v list c.if-term-ne0.list (λ j b. rise j i b (simp length-map in_cs)) (omega arith) h (λ z. w.if-term-ne0.true (sym code ∙ z)) w.listed-is
+            (w.list-is ∙ ap₂ (λ p y. set list k (record { page = p; code = y })) (sym (page_is cs i in_cs)) (sym code))
+        | else-term-ne0 w ↦ left (i + 1) k c.if-term-ne0.listed g v list c.if-term-ne0.list (leave i g v k list h (code ∙ w.if-term-ne0.false)) w.listed-is w.list-is
+      ];
+    }

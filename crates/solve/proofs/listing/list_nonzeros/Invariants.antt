@@ -1,8 +1,11 @@
-use Rattle.std.proofs.Common.{◌≡◌, ◌≤◌, length}
+use Rattle.std.proofs.Common.{◌≡◌, length}
 use Rattle.solve.specs.Polynomials.{at}
+use Rattle.solve.specs.Candidates.{pages_of, candidates_of, codes_of}
 use Rattle.solve.specs.Listing.{Nonzeros}
 use Rattle.solve.proofs.listing.list_nonzeros.Given as goal
 
-abbrev pub invariant-loop-i : goal.invariant-loop-i
-invariant-loop-i l =
-    (l.listed ≤ l.i) × (length l.list ≡ 129) × Nonzeros l.i (at l.candidates.pages) (at l.codes) l.listed l.list
+abbrev pub invariant-loop-term : goal.invariant-loop-term
+invariant-loop-term l = record {
+  long : length l.list ≡ 129;
+  listed : Nonzeros l.term-index (at (pages_of (candidates_of l.coded))) (at (codes_of l.coded)) l.listed l.list;
+}

@@ -1,9 +1,13 @@
-use Rattle.std.proofs.Common.{arith}
-use Rattle.solve.specs.Polynomials.{at}
-use Rattle.solve.proofs.Turns.{value_turn}
+use Rattle.std.proofs.Common.{◌∙◌, rules}
+use Rattle.std.proofs.lemmas.Iterator.Adapters.{YieldsList-from_rev_slice}
+use Rattle.std.proofs.lemmas.Iterator.Consumers.{fold_from_yields_List}
+use Rattle.solve.proofs.Folds.{value_fold}
 use Rattle.solve.proofs.polynomial.evaluate.Goals as goal
 
-pub loop-i-preserved : goal.loop-i-preserved
-loop-i-preserved g c =
-    let turn = value_turn g.F.Field.ops (at c.args.coefficients.now) c.args.terms c.loop-i.i c.args.x c.loop-i.sum (omega arith) (omega arith) c.loop-i.invariant in
-    cc
+pub returns : goal.returns
+returns g c =
+    let f = g.F.Field.ops in
+    let cs = c.args.coefficients.now in
+    let x = c.args.x in
+    fold_from_yields_List _ (λ v c. f.plus (f.times v x) c) 0 c.fold.result c.fold.ensures.ran (YieldsList-from_rev_slice cs (cc)) (λ a y b q k. search rules)
+    ∙ value_fold f x cs

@@ -1,12 +1,12 @@
-use Rattle.std.proofs.Common.{◌≡◌, ℕ, ◌<◌, ◌≤◌, length}
+use Rattle.std.proofs.Common.{◌≡◌, ◌++◌, map, take, drop}
 use Rattle.field.specs.Sums.{entry, total}
-use Rattle.solve.specs.Polynomials.{at}
+use Rattle.solve.specs.Candidates.{codes_of, raised}
 use Rattle.solve.proofs.verify.next_sum.Given as goal
 
-abbrev pub invariant-loop-i : goal.invariant-loop-i
-invariant-loop-i g l =
+abbrev pub invariant-loop-term : goal.invariant-loop-term
+invariant-loop-term g l =
     let f = g.F.Field.ops in
-    (length l.terms ≡ 129)
-    × ((k : ℕ) → k < l.i → at l.terms k ≡ f.times (at l.initial.terms k) (at l.points k))
-    × ((k : ℕ) → l.i ≤ k → at l.terms k ≡ at l.initial.terms k)
-    × (l.sum ≡ total f l.i (λ k. f.times (entry l.initial.terms k) (entry l.points k)))
+    record {
+      terms : l.terms ≡ map (raised f) (take l.term-index l.initial.terms) ++ drop l.term-index l.initial.terms;
+      sum : l.sum ≡ total f l.term-index (entry (codes_of (map (raised f) l.initial.terms)));
+    }
