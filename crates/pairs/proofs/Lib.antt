@@ -1,3 +1,4 @@
+pub mod Answering
 pub mod Crossing
 pub mod Found
 pub mod Made

@@ -35,7 +35,10 @@ pub fn solve_pair<F: Field>(
     let values = differences::<F>(rows, s, t);
     let mut list = [Entry { page: 0, code: 0 }; 129];
     match solve::<F>(rows.pages, &values[..sums], weight, &mut list)? {
-        Some(weight) => Ok(Some(PairGap { weight, list })),
+        Some(found) => Ok(Some(PairGap {
+            weight: found,
+            list,
+        })),
         None => Ok(None),
     }
 }

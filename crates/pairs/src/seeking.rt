@@ -20,11 +20,7 @@ pub(crate) fn first_pair<P: Fn(usize, usize) -> bool>(
 }
 
 // The lowest station above s that passes with it.
-fn first_after<P: Fn(usize, usize) -> bool>(
-    stations: usize,
-    s: usize,
-    passes: &P,
-) -> Option<usize>
+fn first_after<P: Fn(usize, usize) -> bool>(stations: usize, s: usize, passes: &P) -> Option<usize>
     requires { P.IsAlwaysCallable passes.now }
     ensures { FirstAfter stations s (λ t. P.post passes.now s t true) (λ t. P.post passes.now s t false) result }
 {

@@ -57,14 +57,18 @@ fn accept<F: Field>(stations: usize, pages: usize, sums: usize) -> Result<(), Re
 }
 
 // The answers of the pairs s < t of the stations, that of t at t - 1. With sums that fit, none is refused.
-fn solve_above<F: Field>(rows: &Rows, s: usize, sums: usize) -> Result<[Option<PairGap>; 8], Refusal>
+fn solve_above<F: Field>(
+    rows: &Rows,
+    s: usize,
+    sums: usize,
+) -> Result<[Option<PairGap>; 8], Refusal>
     requires inside { s < rows.now.stations }
     requires few { rows.now.stations ≤ 8 }
     requires narrow { Within 1 (page_limit F.Field.ops) rows.now.pages }
     requires known { sums ≤ 128 }
     ensures { MatchResult result
         (λ row. (t : ℕ) → s < t → t ≤ rows.now.stations →
-            Answered F.Field.ops rows.now.pages (sums / 2) sums (sum_in rows.now.words.now rows.now.pages) s t (slice_index_or row (t - 1) None))
+        Answered F.Field.ops rows.now.pages (sums / 2) sums (sum_in rows.now.words.now rows.now.pages) s t (slice_index_or row (t - 1) None))
         (λ _. ⊥) }
 {
     let mut row = [None; 8];

@@ -8,4 +8,4 @@ abbrev pub invariant-loop-s : goal.invariant-loop-s
 invariant-loop-s g l =
     (length l.pairs ≡ 8)
     × ((s t : ℕ) → Pair l.stations s t → s < l.s
-      → Answered g.F.Field.ops l.pages (l.sums / 2) l.sums (sum_in l.tally l.pages) s t (get_or (get_or l.pairs (s - 1) []) (t - 1) None))
+    → Answered g.F.Field.ops l.pages (l.sums / 2) l.sums (sum_in l.tally l.pages) s t (get_or (get_or l.pairs (s - 1) []) (t - 1) None))
