@@ -1,10 +1,9 @@
 -- From what is solved of one pair's values to what is answered of the pair.
-use Rattle.std.proofs.Common.{◌≡◌, ℕ, ◌+◌, ◌<◌, ◌≤◌, List, length, get_or, take, length-take-le, sym, subst, inl, inr, Some, Option}
+use Rattle.std.proofs.Common.{◌≡◌, ℕ, ◌+◌, ◌<◌, ◌≤◌, List, length, get_or, take, length-take-le, sym, subst, inl, inr}
 use Rattle.field.specs.Field.{Ops, Laws}
 use Rattle.refusal.specs.declared.Refusal.{Refusal}
 use Rattle.refusal.specs.Rules.{Refused, Accepted}
-use Rattle.solve.specs.declared.Entry.{Entry}
-use Rattle.solve.specs.Answer.{code_at, Solved}
+use Rattle.solve.specs.Answer.{Solved}
 use Rattle.solve.specs.Solution.{Enough, solving}
 use Rattle.solve.proofs.Values.{list_solves, list_weighs, not_refused}
 use Rattle.scheme.specs.Farm.{Table}

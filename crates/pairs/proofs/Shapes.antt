@@ -1,8 +1,7 @@
 -- The triangle of a family of pairs without two disjoint ones, from its first pair and from pairs without one of that pair's stations.
-use Rattle.std.proofs.Common.{◌≡◌, ℕ, ◌<◌, ◌≤◌, ◌⊎◌, Some, sym, ◌∙◌, subst, subst₂, inl, inr, arith}
-use native.Mathlib.Decide.{ℕ_discrete, dec_lt}
-use Rattle.scheme.specs.Farm.{Lowest}
-use Rattle.scheme.specs.Pairs.{Pair, Empty, TwoApart, Triangle, InAll}
+use Rattle.std.proofs.Common.{◌≡◌, ℕ, ◌<◌, ◌≤◌, Some, sym, ◌∙◌, subst, subst₂, inl, inr, arith}
+use native.Mathlib.Decide.{dec_lt}
+use Rattle.scheme.specs.Pairs.{Pair, TwoApart, Triangle, InAll}
 use Rattle.scheme.proofs.Pairs.{shape, triangle_pairs, among_true}
 use Rattle.pairs.specs.Seeking.{Before}
 use Rattle.pairs.specs.Searching.{Apart, FirstApart}

@@ -1,14 +1,12 @@
 -- Suspect pairs: what the first pair that is not lighter says, and that they are decided.
-use Rattle.std.proofs.Common.{◌≡◌, ℕ, ◌<◌, Bool, true, false, not, is_some, Option, MatchBool, refl, inl, inr}
+use Rattle.std.proofs.Common.{◌≡◌, ℕ, Bool, true, false, not, MatchBool, refl, inl, inr}
 use native.Mathlib.Decide.{dec_lt}
 use borrow.Author.Tests.{both_ways}
 use Rattle.scheme.specs.Pairs.{Pair, Disjoint}
 use Rattle.scheme.proofs.Search.{dec_and, dec_not, sure, find_pair, decide_disjoint}
 use Rattle.pairs.specs.declared.pair_gaps.PairGaps.{PairGaps}
 use Rattle.pairs.specs.Held.{unsolved_in, weight_in}
-use Rattle.pairs.specs.Seeking.{FirstPair}
 use Rattle.pairs.specs.Suspects.{LighterIn, AllLighter, SuspectIn}
-use Rattle.pairs.proofs.Told.{some_pair}
 
 module _ (M : ℕ) (g : PairGaps) (w s t : ℕ) where
   -- a pair that is disjoint from s and t and not lighter

@@ -1,5 +1,5 @@
 -- The first pair of stations that passes: from the stations gone through one by one, and to what the test says of a pair.
-use Rattle.std.proofs.Common.{◌≡◌, ℕ, ◌<◌, ◌≤◌, not, is_some, Bool, true, false, Some, None, Option, MatchBool, arith}
+use Rattle.std.proofs.Common.{◌≡◌, ℕ, ◌<◌, ◌≤◌, is_some, Bool, true, false, Some, None, Option, MatchBool, arith}
 use Rattle.std.specs.Option.{MatchOption}
 use Rattle.algebra.specs.Vectors.{Page}
 use Rattle.scheme.specs.Pairs.{Pair}

@@ -1,6 +1,6 @@
 -- Seeking a pair of M stations that is in Ω.
 use Rattle.std.specs.Prelude.{ℕ, Option}
-use Rattle.scheme.specs.Pairs.{Pair, Disjoint}
+use Rattle.scheme.specs.Pairs.{Disjoint}
 use Rattle.pairs.specs.Seeking.{FirstPair}
 
 module _ (M : ℕ) (Ω : ℕ → ℕ → Type 0) where

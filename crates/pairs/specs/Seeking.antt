@@ -1,5 +1,5 @@
 -- The first pair of M stations that passes, in the order of its lower station and then of the higher.
-use Rattle.std.specs.Prelude.{◌≡◌, ℕ, ◌<◌, ◌≤◌, ◌⊎◌, Some, None, Option, MatchOption}
+use Rattle.std.specs.Prelude.{◌≡◌, ℕ, ◌<◌, ◌≤◌, ◌⊎◌, Some, None, Option}
 use Rattle.scheme.specs.Pairs.{Pair}
 
 -- the pair s < t comes before the pair u < v

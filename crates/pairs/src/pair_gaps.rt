@@ -1,5 +1,5 @@
 // The differences of all pairs of at most 8 stations.
-ghost use Rattle.std.specs.Prelude.{◌≤◌};
+ghost use Rattle.std.specs.Prelude.{◌≡◌, ◌≤◌, length};
 
 use crate::pair_gap::PairGap;
 
@@ -9,4 +9,5 @@ pub struct PairGaps {
     pub(crate) stations: usize,
     pub(crate) pairs: [[Option<PairGap>; 8]; 8],
     ghost few: { stations ≤ 8 },
+    ghost full: { length pairs ≡ 8 },
 }

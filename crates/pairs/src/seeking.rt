@@ -1,6 +1,5 @@
 // Seeking a pair of stations.
-ghost use Rattle.std.specs.Prelude.{◌<◌, MatchOption, false, true};
-ghost use Rattle.algebra.specs.Vectors.{Page};
+ghost use Rattle.std.specs.Prelude.{false, true};
 ghost use Rattle.pairs.specs.Seeking.{FirstPair, FirstAfter};
 
 // The first pair s < t of the stations that passes, in the order of s and then of t.

@@ -1,4 +1,4 @@
-use Rattle.std.proofs.Common.{rules, is_some, refl}
+use Rattle.std.proofs.Common.{rules, refl}
 use borrow.Author.Tests.{tests}
 use Rattle.scheme.specs.Pairs.{Disjoint}
 use Rattle.pairs.specs.Suspects.{LighterIn}
