@@ -1,5 +1,5 @@
 // What shape the suspect pairs have.
-ghost use Rattle.std.specs.Prelude.{◌≡◌, ◌<◌, ◌≤◌, Some};
+ghost use Rattle.std.specs.Prelude.{◌<◌, ◌≤◌, Some};
 ghost use Rattle.scheme.specs.Pairs as shape;
 ghost use Rattle.pairs.specs.Suspects.{SuspectIn};
 ghost use Rattle.pairs.specs.Searching.{FirstApart};

@@ -1,5 +1,5 @@
 // Solving the differences of all pairs of stations, from the sums in a tally.
-ghost use Rattle.std.specs.Prelude.{◌≡◌, ℕ, ◌-◌, ◌/◌, ◌<◌, ◌≤◌, length, None, MatchResult, slice_index_or};
+ghost use Rattle.std.specs.Prelude.{ℕ, ◌-◌, ◌/◌, ◌<◌, ◌≤◌, None, MatchResult, slice_index_or};
 ghost use Rattle.field.specs.Field.{page_limit};
 ghost use Rattle.refusal.specs.Rules.{Accepted, Refused, Within};
 ghost use Rattle.tally.specs.Rows.{sum_in};
