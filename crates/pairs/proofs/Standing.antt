@@ -19,10 +19,11 @@ use Rattle.pairs.specs.Solving.{PairsSolved}
 abbrev pub standing : PairGaps → ℕ → ℕ → Option PairGap
 standing g s t = slice_index_or (slice_index_or g.pairs (s - 1) []) (t - 1) None
 
-held_is : (g : PairGaps) (s t : ℕ) → 1 ≤ s → s < t → held g s t ≡ standing g s t
-held_is g s t a b =
-    ap (λ x. cond x (cond (ltb s t) (standing g s t) None) None) (lt-ltb 0 s (omega arith))
-    ∙ ap (λ x. cond x (standing g s t) None) (lt-ltb s t b)
+held_is : (g : PairGaps) (s t : ℕ) → 1 ≤ s → s < t → t ≤ 8 → held g s t ≡ standing g s t
+held_is g s t a b d =
+    ap (λ x. cond x (cond (ltb s t) (cond (ltb t 9) (standing g s t) None) None) None) (lt-ltb 0 s (omega arith))
+    ∙ ap (λ x. cond x (cond (ltb t 9) (standing g s t) None) None) (lt-ltb s t b)
+    ∙ ap (λ x. cond x (standing g s t) None) (lt-ltb t 9 (omega arith))
 
 -- ── the difference of two stations
 module _ (f : Ops) (g : PairGaps) where
@@ -50,7 +51,7 @@ module _ {f : Ops} (laws : Laws f) (spread : Spread f) (N h : ℕ) (T : Table) (
   D = gaps_in f g
 
   answered : (s t : ℕ) → Pair M s t → Answered f N (h / 2) h T s t (held g s t)
-  answered s t p = subst (Answered f N (h / 2) h T s t) (sym (held_is g s t p.0 p.1)) (all s t p)
+  answered s t p = subst (Answered f N (h / 2) h T s t) (sym (held_is g s t p.0 p.1 (omega (arith, p.2, g.few)))) (all s t p)
 
   none : (s t : ℕ) (o : Option PairGap) → Answered f N (h / 2) h T s t o → is_none o ≡ true → Unsolved f N h T s t
   none s t (Some gap) a e = absurd (both_ways false refl e)

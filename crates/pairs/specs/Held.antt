@@ -8,7 +8,7 @@ use Rattle.pairs.specs.declared.pair_gaps.PairGaps.{PairGaps}
 
 -- what is held of the pair s < t of the stations 1 .. 8; nothing of any other two numbers
 abbrev pub held : PairGaps → ℕ → ℕ → Option PairGap
-held g s t = cond (nat_lt 0 s) (cond (nat_lt s t) (slice_index_or (slice_index_or g.pairs (s - 1) []) (t - 1) None) None) None
+held g s t = cond (nat_lt 0 s) (cond (nat_lt s t) (cond (nat_lt t 9) (slice_index_or (slice_index_or g.pairs (s - 1) []) (t - 1) None) None) None) None
 
 abbrev pub solved_code : Option PairGap → ℕ → ℕ
 solved_code (Some gap) n = code_at gap.list n

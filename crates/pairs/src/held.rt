@@ -35,11 +35,11 @@ impl PairGaps {
         self.held(s, t).map_or(0, |gap| code_at(&gap.list, page))
     }
 
-    // What is held of the pair s < t; None of any other two numbers.
+    // What is held of the pair s < t of the stations 1 to 8; None of any other two numbers.
     fn held(&self, s: usize, t: usize) -> Option<&PairGap>
         ensures { option_copied result ≡ held self.now s t }
     {
-        if 0 < s && s < t {
+        if 0 < s && s < t && t < 9 {
             self.pairs.get(s - 1)?.get(t - 1)?.as_ref()
         } else {
             None
