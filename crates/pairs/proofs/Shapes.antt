@@ -1,13 +1,31 @@
--- The triangle of a family of pairs without two disjoint ones, from its first pair and from pairs without one of that pair's stations.
+-- The shape of a family of pairs without two disjoint ones, from its first pair and from pairs without one of that pair's stations.
 use Rattle.std.proofs.Common.{◌≡◌, ℕ, ◌<◌, ◌≤◌, Some, sym, ◌∙◌, subst, subst₂, inl, inr, arith}
-use native.Mathlib.Decide.{dec_lt}
-use Rattle.scheme.specs.Pairs.{Pair, TwoApart, Triangle, InAll}
+use native.Mathlib.Decide.{ℕ_discrete, dec_lt}
+use Rattle.scheme.specs.Farm.{Lowest}
+use Rattle.scheme.specs.Pairs.{Pair, Empty, TwoApart, Triangle, InAll}
 use Rattle.scheme.proofs.Pairs.{shape, triangle_pairs, among_true}
 use Rattle.pairs.specs.Seeking.{Before}
 use Rattle.pairs.specs.Searching.{Apart, FirstApart}
 use Rattle.pairs.specs.Doubts.{Outside}
 
 module _ {M : ℕ} {Ω : ℕ → ℕ → Type 0} where
+  in_all : (i : ℕ) → ((u v : ℕ) → Pair M u v → ¬ Apart M Ω i i u v) → InAll M Ω i
+  in_all i none u v p o = elim (ℕ_discrete i u) [
+    | yes e ↦ inl e
+    | no a ↦ elim (ℕ_discrete i v) [ yes e ↦ inr e | no b ↦ absurd (none u v p ((a, b, a, b), o)) ]
+  ]
+
+  -- ── through the first pair's lower or higher station
+  pub through_lower : (s t : ℕ) → Pair M s t → Ω s t → ((u v : ℕ) → Pair M u v → ¬ Apart M Ω s s u v) → (¬ Empty M Ω) × Lowest M (InAll M Ω) s
+  through_lower s t p o none = ((λ empty. empty s t p o), (omega arith, in_all s none, λ m lo lt all. omega (arith, all s t p o)))
+
+  pub through_higher : (s t c d : ℕ) → Pair M s t → Ω s t → Pair M c d → Apart M Ω s s c d → ((u v : ℕ) → Pair M u v → ¬ Apart M Ω t t u v)
+      → (¬ Empty M Ω) × Lowest M (InAll M Ω) t
+  through_higher s t c d p o r q none = (
+    (λ empty. empty s t p o),
+    (omega arith, in_all t none, λ m lo lt all. omega (arith, all s t p o, all c d r q.1, q.0.0, q.0.1)),
+  )
+
   -- ── the triangle
   module _ (few : M ≤ 8) (dec : (s t : ℕ) → Pair M s t → Dec (Ω s t)) (meeting : ¬ TwoApart M Ω) where
     is_triangle : (s t c d e g : ℕ) → FirstApart M Ω 0 0 (Some (s, t)) → Pair M c d → Apart M Ω s s c d → Pair M e g → Apart M Ω t t e g → Triangle M Ω s t d

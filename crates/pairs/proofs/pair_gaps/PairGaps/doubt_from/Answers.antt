@@ -1,6 +1,17 @@
 use Rattle.pairs.proofs.Suspecting.{decide_suspect}
-use Rattle.pairs.proofs.Shapes.{triangle_shape}
+use Rattle.pairs.proofs.Shapes.{through_lower, through_higher, triangle_shape}
 use Rattle.pairs.proofs.pair_gaps.PairGaps.doubt_from.Goals as goal
+
+pub returns-in_default : goal.returns-in_default
+returns-in_default c =
+    let first = c.requires.first in
+    through_lower c.args.s c.args.t first.0 first.1.1 c.in_default.ensures
+
+pub returns-in_default-first_apart : goal.returns-in_default-first_apart
+returns-in_default-first_apart c =
+    let first = c.requires.first in
+    let other = c.in-Some.ensures in
+    through_higher c.args.s c.args.t c.in-Some.field-0-0 c.in-Some.z first.0 first.1.1 other.0 other.1 c.in_default-first_apart.ensures
 
 pub returns : goal.returns
 returns c =
