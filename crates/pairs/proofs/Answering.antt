@@ -1,65 +1,32 @@
 -- From what is solved of one pair's values to what is answered of the pair.
-use Rattle.std.proofs.Common.{◌≡◌, ℕ, ◌+◌, ◌-◌, ◌/◌, ◌<◌, ◌≤◌, List, length, get_or, take, Some, None, Option, sym, ap, ◌∙◌, subst, inl, inr, arith}
-use native.Mathlib.Decide.{dec_le}
-use Rattle.std.proofs.lemmas.List.{get_or_past, get_or-take, length-take-le}
-use Rattle.field.specs.Field.{Ops, Laws, page_limit}
-use Rattle.field.specs.Sums.{entry}
+use Rattle.std.proofs.Common.{◌≡◌, ℕ, ◌+◌, ◌<◌, ◌≤◌, List, length, get_or, take, length-take-le, sym, subst, inl, inr}
+use Rattle.field.specs.Field.{Ops, Laws}
 use Rattle.refusal.specs.declared.Refusal.{Refusal}
-use Rattle.refusal.specs.Rules.{Within, Refused}
-use Rattle.algebra.specs.Vectors.{Page, weight}
-use Rattle.solve.specs.declared.Entry.{Entry}
-use Rattle.solve.specs.Answer.{code_at, Solved, Answer}
-use Rattle.solve.specs.Solution as of
-use Rattle.solve.specs.Solution.{solving}
+use Rattle.refusal.specs.Rules.{Refused, Accepted}
+use Rattle.solve.specs.Answer.{Solved}
+use Rattle.solve.specs.Solution.{Enough, solving}
+use Rattle.solve.proofs.Values.{list_solves, list_weighs, not_refused}
 use Rattle.scheme.specs.Farm.{Table}
-use Rattle.scheme.specs.Differences.{gap, Solution, Unsolved}
-use Rattle.solve.proofs.Values.{listed_weight}
+use Rattle.scheme.specs.Differences.{gap}
+use Rattle.pairs.specs.declared.pair_gap.PairGap.{PairGap}
+use Rattle.pairs.specs.Difference.{solving_pair, DifferenceOf}
 
-module _ {f : Ops} (l : Laws f) (N h : ℕ) (T : Table) (s t : ℕ) (values : List ℕ) (long : h ≤ length values)
-    (are : (k : ℕ) → k < h → get_or values k 0 ≡ gap f T s t (k + 1)) where
-  -- the first h values are handed over
-  abbrev V : List ℕ
-  V = take h values
+-- the first J values are handed over
+module _ {f : Ops} (l : Laws f) (N w J : ℕ) (T : Table) (s t : ℕ) (values : List ℕ) (room : J ≤ length values)
+    (are : (k : ℕ) → k < J → get_or values k 0 ≡ gap f T s t (k + 1)) where
+  pub accepted : Accepted (solving f N w (take J values)) → Accepted (solving_pair f N w J)
+  accepted x = (x.0, (subst (Enough N w) (length-take-le J values room) x.1.0, tt))
 
-  length_is : length V ≡ h
-  length_is = length-take-le h values long
+  -- differences are codes, and these are not refused
+  pub refused : (r : Refusal) → Refused (solving f N w (take J values)) r → Refused (solving_pair f N w J) r
+  refused r (inl due) = inl due
+  refused r (inr (pages, inl due)) = inr (pages, inl ((λ enough. due.0 (subst (Enough N w) (sym (length-take-le J values room)) enough)), due.1, due.2))
+  refused r (inr (pages, inr (enough, rest))) =
+      absurd (not_refused f N w J values (gap f T s t) room are l pages.0 pages.1 (subst (Enough N w) (length-take-le J values room) enough) (λ j. l.minus_code _ _) r
+      (inr (pages, inr (enough, rest))))
 
-  entry_is : (j : ℕ) → Page h j → entry V j ≡ gap f T s t j
-  entry_is j p = get_or-take h values (j - 1) 0 (omega arith) ∙ are (j - 1) (omega arith) ∙ ap (gap f T s t) (let e : j - 1 + 1 ≡ j = omega arith in e)
-
-  of_pair : (e : ℕ → ℕ) → of.Solution f N (h / 2) V e → Solution f N h T s t e
-  of_pair e x = record { codes = x.codes; light = x.light; sums = λ j p. x.sums j (omega (arith, length_is)) ∙ entry_is j p }
-
-  of_values : (e : ℕ → ℕ) → Solution f N h T s t e → of.Solution f N (h / 2) V e
-  of_values e x = record {
-    codes = x.codes;
-    light = x.light;
-    sums = λ j p. let q : Page h j = omega (arith, length_is) in x.sums j q ∙ sym (entry_is j q);
+  pub difference : (x : PairGap) → Solved f N w (take J values) x.weight x.list → DifferenceOf f N w J T s t x
+  difference x h = record {
+    solves = list_solves f N w J values (gap f T s t) room are x.weight x.list h;
+    weighs = list_weighs f N w J values (gap f T s t) room are x.weight x.list h;
   }
-
-  pub pair_solved : (m : ℕ) (list : List Entry) → Solved f N (h / 2) V m list
-      → Solution f N h T s t (code_at list) × (m ≡ weight N (code_at list))
-  pair_solved m list x = (of_pair (code_at list) x.solves, sym (listed_weight f N m list x.listed))
-
-  pub pair_unsolved : ((e : ℕ → ℕ) → of.Solution f N (h / 2) V e → ⊥) → Unsolved f N h T s t
-  pair_unsolved none e x = none e (of_values e x)
-
-  code : (k : ℕ) → 1 ≤ k → f.size ≤ entry V k → ⊥
-  code k lo big = elim (dec_le (length V) (k - 1)) [
-    | yes past ↦ omega (arith, get_or_past V (k - 1) 0 past, l.size_least)
-    | no inside ↦ omega (arith, entry_is k (omega (arith, length_is)), l.minus_code (T s k) (T t k))
-  ]
-
-  pub never_refused : Within 1 (page_limit f) N → h ≤ 128 → (r : Refusal) → Refused (solving f N (h / 2) V) r → ⊥
-  never_refused few known r (inl d) = d.0 few
-  never_refused few known r (inr (_, inl d)) = d.0 (inr (omega (arith, length_is)), omega (arith, length_is))
-  never_refused few known r (inr (_, inr (_, inl d))) = code _ d.1.0 d.1.1
-  never_refused few known r (inr (_, inr (_, inr d))) = d.1
-
--- ── what the solver answers
-module _ (f : Ops) (N t : ℕ) (V : List ℕ) (before after : List Entry) where
-  pub answer_some : (o : Option ℕ) (m : ℕ) → o ≡ Some m → Answer f N t V before after o → Solved f N t V m after
-  answer_some o m is x = subst (Answer f N t V before after) is x
-
-  pub answer_none : (o : Option ℕ) → o ≡ None → Answer f N t V before after o → (e : ℕ → ℕ) → of.Solution f N t V e → ⊥
-  answer_none o is x = (subst (Answer f N t V before after) is x).0

@@ -1,5 +1,9 @@
 pub mod Answering
+pub mod Crossing
+pub mod Found
+pub mod Made
+pub mod Outside
+pub mod Shapes
 pub mod Standing
 pub mod Suspecting
-pub mod Shapes
-pub mod Found
+pub mod Told

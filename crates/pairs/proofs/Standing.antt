@@ -1,6 +1,5 @@
--- Where the pairs stand, and what follows for any two stations from what is answered at each place.
-use Rattle.std.proofs.Common.{◌≡◌, ℕ, ◌+◌, ◌-◌, ◌*◌, ◌/◌, ◌%◌, ◌<◌, ◌≤◌, true, false, cond, ltb, ◌⊎◌, ◌↔◌, Some, None, Option, sym, refl, ap, ◌∙◌, subst, subst₂, inl, inr, arith, le-ltb, lt-ltb}
-use native.Mathlib.Decide.{ℕ_discrete}
+-- What follows for any two stations from what is answered of each pair.
+use Rattle.std.proofs.Common.{◌≡◌, ℕ, ◌-◌, ◌/◌, ◌<◌, ◌≤◌, true, false, cond, ltb, is_none, ◌⊎◌, ◌↔◌, [], Some, None, Option, slice_index_or, sym, refl, ap, ◌∙◌, subst, inl, inr, arith, le-ltb, lt-ltb}
 use borrow.Author.Tests.{both_ways}
 use Rattle.field.specs.Field.{Ops, Laws, Spread}
 use Rattle.algebra.specs.Vectors.{weight}
@@ -11,92 +10,76 @@ use Rattle.scheme.specs.Theorem.{Answers}
 use Rattle.scheme.proofs.Suspects.{suspect_by_answers}
 use Rattle.pairs.specs.declared.pair_gap.PairGap.{PairGap}
 use Rattle.pairs.specs.declared.pair_gaps.PairGaps.{PairGaps}
-use Rattle.pairs.specs.Held.{pair_place, held, is_none, solved_code, solved_weight, code_of, unsolved_in, weight_in, gaps_in}
+use Rattle.pairs.specs.Difference.{Answered}
+use Rattle.pairs.specs.Held.{held, solved_code, solved_weight, code_of, unsolved_in, weight_in, gaps_in}
 use Rattle.pairs.specs.Suspects.{SuspectIn}
-use Rattle.pairs.specs.Solving.{Answered, AnsweredAt, PairsSolved}
+use Rattle.pairs.specs.Solving.{PairsSolved}
 
-pub place_is : (s t : ℕ) → 1 ≤ s → s < t → t ≤ 8 → pair_place s t ≡ 8 * (s - 1) + (t - 1)
-place_is s t a b d =
-    ap (λ x. cond x (cond (ltb s t) (cond (ltb t 9) (8 * (s - 1) + (t - 1)) 64) 64) 64) (lt-ltb 0 s (omega arith))
-    ∙ ap (λ x. cond x (cond (ltb t 9) (8 * (s - 1) + (t - 1)) 64) 64) (lt-ltb s t b)
-    ∙ ap (λ x. cond x (8 * (s - 1) + (t - 1)) 64) (lt-ltb t 9 (omega arith))
+-- what stands in row s - 1 at t - 1
+abbrev pub standing : PairGaps → ℕ → ℕ → Option PairGap
+standing g s t = slice_index_or (slice_index_or g.pairs (s - 1) []) (t - 1) None
 
-pub place_below : (s t : ℕ) → 1 ≤ s → s < t → t ≤ 8 → pair_place s t < 64
-place_below s t a b d = omega (arith, place_is s t a b d)
-
-pub place_back : (s t : ℕ) → 1 ≤ s → s < t → t ≤ 8 → (s ≡ pair_place s t / 8 + 1) × (t ≡ pair_place s t % 8 + 1)
-place_back s t a b d = let e = place_is s t a b d in (omega arith, omega arith)
-
--- what holds of no pair that stands below k, nor of the pair at k, holds of none below k + 1
-pub one_more : (M : ℕ) → M ≤ 8 → (P : ℕ → ℕ → Type 0) → ((s t : ℕ) → P s t → Pair M s t) → (k : ℕ) → ((s t : ℕ) → pair_place s t < k → ¬ P s t)
-    → ¬ P (k / 8 + 1) (k % 8 + 1) → (s t : ℕ) → pair_place s t < k + 1 → ¬ P s t
-one_more M few P pair k below here s t lt p = elim (ℕ_discrete (pair_place s t) k) [
-  | yes e ↦ here (subst₂ P (back.0 ∙ ap (λ n. n / 8 + 1) e) (back.1 ∙ ap (λ n. n % 8 + 1) e) p)
-  | no apart ↦ below s t (omega arith) p
-]
-  where
-    is : Pair M s t
-    is = pair s t p
-
-    back : (s ≡ pair_place s t / 8 + 1) × (t ≡ pair_place s t % 8 + 1)
-    back = place_back s t is.0 is.1 (omega (arith, is.2))
+held_is : (g : PairGaps) (s t : ℕ) → 1 ≤ s → s < t → t ≤ 8 → held g s t ≡ standing g s t
+held_is g s t a b d =
+    ap (λ x. cond x (cond (ltb s t) (cond (ltb t 9) (standing g s t) None) None) None) (lt-ltb 0 s (omega arith))
+    ∙ ap (λ x. cond x (cond (ltb t 9) (standing g s t) None) None) (lt-ltb s t b)
+    ∙ ap (λ x. cond x (standing g s t) None) (lt-ltb t 9 (omega arith))
 
 -- ── the difference of two stations
 module _ (f : Ops) (g : PairGaps) where
-  pub forward : (s t : ℕ) → s < t → gaps_in f g s t ≡ code_of g (pair_place s t)
-  forward s t lt = ap (λ b n. cond b (code_of g (pair_place s t) n) (cond (ltb t s) (f.minus 0 (code_of g (pair_place t s) n)) 0)) (lt-ltb s t lt)
+  pub forward : (s t : ℕ) → s < t → gaps_in f g s t ≡ code_of g s t
+  forward s t lt = ap (λ b n. cond b (code_of g s t n) (cond (ltb t s) (f.minus 0 (code_of g t s n)) 0)) (lt-ltb s t lt)
 
-  backward : (s t n : ℕ) → s < t → gaps_in f g t s n ≡ f.minus 0 (code_of g (pair_place s t) n)
+  backward : (s t n : ℕ) → s < t → gaps_in f g t s n ≡ f.minus 0 (code_of g s t n)
   backward s t n lt =
-      ap (λ b. cond b (code_of g (pair_place t s) n) (cond (ltb s t) (f.minus 0 (code_of g (pair_place s t) n)) 0)) (le-ltb t s (omega arith))
-      ∙ ap (λ b. cond b (f.minus 0 (code_of g (pair_place s t) n)) 0) (lt-ltb s t lt)
+      ap (λ b. cond b (code_of g t s n) (cond (ltb s t) (f.minus 0 (code_of g s t n)) 0)) (le-ltb t s (omega arith))
+      ∙ ap (λ b. cond b (f.minus 0 (code_of g s t n)) 0) (lt-ltb s t lt)
 
   pub turned : (s t n : ℕ) → s < t → gaps_in f g t s n ≡ f.minus 0 (gaps_in f g s t n)
   turned s t n lt = backward s t n lt ∙ ap (λ e. f.minus 0 (e n)) (sym (forward s t lt))
 
   pub same : (s n : ℕ) → gaps_in f g s s n ≡ 0
-  same s n =
-      ap (λ b. cond b (code_of g (pair_place s s) n) (cond b (f.minus 0 (code_of g (pair_place s s) n)) 0)) (le-ltb s s (omega arith))
+  same s n = ap (λ b. cond b (code_of g s s n) (cond b (f.minus 0 (code_of g s s n)) 0)) (le-ltb s s (omega arith))
 
 -- ── the answers
 module _ {f : Ops} (laws : Laws f) (spread : Spread f) (N h : ℕ) (T : Table) (g : PairGaps) (places : N ≤ f.places)
-    (all : (k : ℕ) → k < 64 → AnsweredAt f g.stations N h T k (held g k)) where
+    (all : (s t : ℕ) → Pair g.stations s t → Answered f N (h / 2) h T s t (standing g s t)) where
   abbrev M : ℕ
   M = g.stations
 
   abbrev D : ℕ → ℕ → ℕ → ℕ
   D = gaps_in f g
 
-  answered : (s t : ℕ) → Pair M s t → Answered f N h T s t (held g (pair_place s t))
-  answered s t p = all (pair_place s t) (place_below s t p.0 p.1 (omega (arith, g.few))) s t p refl
+  answered : (s t : ℕ) → Pair M s t → Answered f N (h / 2) h T s t (held g s t)
+  answered s t p = subst (Answered f N (h / 2) h T s t) (sym (held_is g s t p.0 p.1 (omega (arith, p.2, g.few)))) (all s t p)
 
-  none : (s t : ℕ) (o : Option PairGap) → Answered f N h T s t o → is_none o ≡ true → Unsolved f N h T s t
+  none : (s t : ℕ) (o : Option PairGap) → Answered f N (h / 2) h T s t o → is_none o ≡ true → Unsolved f N h T s t
   none s t (Some gap) a e = absurd (both_ways false refl e)
   none s t None a e = a
 
-  some : (s t : ℕ) (o : Option PairGap) → Answered f N h T s t o → is_none o ≡ false → Solution f N h T s t (solved_code o)
-  some s t (Some gap) a e = a.0
+  some : (s t : ℕ) (o : Option PairGap) → Answered f N (h / 2) h T s t o → is_none o ≡ false → Solution f N h T s t (solved_code o)
+  some s t (Some gap) a e = a.solves
   some s t None a e = absurd (both_ways true e refl)
 
-  weighed : (s t : ℕ) (o : Option PairGap) → Answered f N h T s t o → is_none o ≡ false → solved_weight o ≡ weight N (solved_code o)
-  weighed s t (Some gap) a e = a.1
+  weighed : (s t : ℕ) (o : Option PairGap) → Answered f N (h / 2) h T s t o → is_none o ≡ false → solved_weight o ≡ weight N (solved_code o)
+  weighed s t (Some gap) a e = sym (a.weighs (solved_code (Some gap)) a.solves)
   weighed s t None a e = absurd (both_ways true e refl)
 
-  either : (s t : ℕ) (o : Option PairGap) → Answered f N h T s t o → Solution f N h T s t (solved_code o) ⊎ Unsolved f N h T s t
-  either s t (Some gap) a = inl a.0
+  either : (s t : ℕ) (o : Option PairGap) → Answered f N (h / 2) h T s t o → Solution f N h T s t (solved_code o) ⊎ Unsolved f N h T s t
+  either s t (Some gap) a = inl a.solves
   either s t None a = inr a
 
-  at_gaps : (s t : ℕ) → Pair M s t → Solution f N h T s t (solved_code (held g (pair_place s t))) → Solution f N h T s t (D s t)
+  at_gaps : (s t : ℕ) → Pair M s t → Solution f N h T s t (solved_code (held g s t)) → Solution f N h T s t (D s t)
   at_gaps s t p x = subst (Solution f N h T s t) (sym (forward f g s t p.1)) x
 
   answers : Answers f M N h T (unsolved_in g) D
   answers s t p = (
-    none s t (held g (pair_place s t)) (answered s t p),
-    λ e. at_gaps s t p (some s t (held g (pair_place s t)) (answered s t p) e),
+    none s t (held g s t) (answered s t p),
+    λ e. at_gaps s t p (some s t (held g s t) (answered s t p) e),
   )
 
   weights : (s t : ℕ) → Pair M s t → unsolved_in g s t ≡ false → weight_in g s t ≡ weight N (D s t)
-  weights s t p e = weighed s t (held g (pair_place s t)) (answered s t p) e ∙ ap (weight N) (sym (forward f g s t p.1))
+  weights s t p e = weighed s t (held g s t) (answered s t p) e ∙ ap (weight N) (sym (forward f g s t p.1))
 
   suspects : (s t : ℕ) → Pair M s t → Suspect f M N h T s t ↔ SuspectIn M g s t
   suspects s t p = (λ x. there (by.0 x), λ x. by.1 (back x))
@@ -120,7 +103,7 @@ module _ {f : Ops} (laws : Laws f) (spread : Spread f) (N h : ℕ) (T : Table) (
     size = refl;
     answers = answers;
     differences = record {
-      pairs = λ s t p. elim (either s t (held g (pair_place s t)) (answered s t p)) [ inl x ↦ inl (at_gaps s t p x) | inr x ↦ inr x ];
+      pairs = λ s t p. elim (either s t (held g s t) (answered s t p)) [ inl x ↦ inl (at_gaps s t p x) | inr x ↦ inr x ];
       turned = λ s t n p _. turned f g s t n p.1;
       same = λ s n _ _. same f g s n;
     };

@@ -1,32 +1,24 @@
--- Suspect pairs: from what is found at each place, and from the weight that is held.
-use Rattle.std.proofs.Common.{◌≡◌, ℕ, ◌<◌, Bool, true, false, Some, None, Option, sym, refl, subst, inl, inr, arith}
+-- Suspect pairs: what the first pair that is not lighter says, and that they are decided.
+use Rattle.std.proofs.Common.{◌≡◌, ℕ, Bool, true, false, not, MatchBool, refl, inl, inr}
 use native.Mathlib.Decide.{dec_lt}
 use borrow.Author.Tests.{both_ways}
-use Rattle.scheme.specs.Pairs.{Disjoint}
+use Rattle.scheme.specs.Pairs.{Pair, Disjoint}
 use Rattle.scheme.proofs.Search.{dec_and, dec_not, sure, find_pair, decide_disjoint}
-use Rattle.pairs.specs.declared.pair_gap.PairGap.{PairGap}
 use Rattle.pairs.specs.declared.pair_gaps.PairGaps.{PairGaps}
-use Rattle.pairs.specs.Held.{pair_place, held, is_none, solved_weight, answered_weight, unsolved_in, weight_in}
-use Rattle.pairs.specs.Suspects.{Says, LighterIn, LighterAt, AllLighter, SuspectIn}
-use Rattle.pairs.proofs.Standing.{place_below}
+use Rattle.pairs.specs.Held.{unsolved_in, weight_in}
+use Rattle.pairs.specs.Suspects.{LighterIn, AllLighter, SuspectIn}
 
-weighed : (o : Option PairGap) (w : ℕ) → Some w ≡ answered_weight o → (is_none o ≡ false) × (solved_weight o ≡ w)
-weighed (Some gap) w e = (refl, cc)
-weighed None w e = absurd (let z : ◌≡◌ {A = ℕ} 0 1 = cc in omega arith)
+module _ (M : ℕ) (g : PairGaps) (w s t : ℕ) where
+  -- a pair that is disjoint from s and t and not lighter
+  abbrev pub Counters : ℕ → ℕ → Type 0
+  Counters u v = Disjoint s t u v × ¬ LighterIn g w u v
 
-module _ (g : PairGaps) where
-  pub every_place : (w s t : ℕ) → ((k : ℕ) → k < 64 → LighterAt g.stations g w s t k) → AllLighter g.stations g w s t
-  every_place w s t all u v p d = all (pair_place u v) (place_below u v p.0 p.1 (omega (arith, g.few))) u v p refl d
-
-  pub by_weight : (M s t w : ℕ) → Some w ≡ answered_weight (held g (pair_place s t)) → (b : Bool) → Says b (AllLighter M g w s t) → Says b (SuspectIn M g s t)
-  by_weight M s t w e b x = go b (subst (λ k. Says b (AllLighter M g k s t)) (sym known.1) x)
-    where
-      known : (unsolved_in g s t ≡ false) × (weight_in g s t ≡ w)
-      known = weighed (held g (pair_place s t)) w e
-
-      go : (b : Bool) → Says b (AllLighter M g (weight_in g s t) s t) → Says b (SuspectIn M g s t)
-      go true all = inr (known.0, all)
-      go false none = λ y. elim y [ inl unsolved ↦ both_ways (unsolved_in g s t) known.0 unsolved | inr z ↦ none z.1 ]
+  pub none_counters : (b : Bool) → MatchBool b ((u : ℕ) × (v : ℕ) × Pair M u v × Counters u v) ((u v : ℕ) → Pair M u v → Disjoint s t u v → LighterIn g w u v)
+      → (r : Bool) → b ≡ not r → MatchBool r (AllLighter M g w s t) (¬ AllLighter M g w s t)
+  none_counters true h false is = λ all. h.3.1 (all h.0 h.1 h.2 h.3.0)
+  none_counters false h true is = h
+  none_counters true h true is = absurd cc
+  none_counters false h false is = absurd cc
 
 -- whether a pair is suspect is decided
 pub decide_suspect : (M : ℕ) (g : PairGaps) (s t : ℕ) → Dec (SuspectIn M g s t)

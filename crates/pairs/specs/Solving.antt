@@ -1,30 +1,19 @@
 -- Solving the differences of all pairs of M stations: what is refused, and what the answers say of the sums.
-use Rattle.std.specs.Prelude.{◌≡◌, ℕ, ◌≤◌, false, ◌↔◌, List, [], ◌∷◌, Some, None, Option}
+use Rattle.std.specs.Prelude.{◌≡◌, ℕ, ◌≤◌, false, ◌↔◌, List, [], ◌∷◌}
 use Rattle.field.specs.Field.{Ops, page_limit}
 use Rattle.refusal.specs.Rules.{Rule, Within, unless}
 use Rattle.algebra.specs.Vectors.{weight}
-use Rattle.solve.specs.Answer.{code_at}
 use Rattle.scheme.specs.Farm.{Table}
 use Rattle.scheme.specs.Pairs.{Pair}
-use Rattle.scheme.specs.Differences.{Solution, Unsolved, Suspect, Differences}
+use Rattle.scheme.specs.Differences.{Suspect, Differences}
 use Rattle.scheme.specs.Theorem.{Answers}
-use Rattle.pairs.specs.declared.pair_gap.PairGap.{PairGap}
 use Rattle.pairs.specs.declared.pair_gaps.PairGaps.{PairGaps}
-use Rattle.pairs.specs.Held.{unsolved_in, weight_in, gaps_in, pair_place}
+use Rattle.pairs.specs.Held.{unsolved_in, weight_in, gaps_in}
 use Rattle.pairs.specs.Suspects.{SuspectIn}
 
 -- what is refused: the number of stations, of pages, of sums
 abbrev pub solving_pairs : Ops → (M N h : ℕ) → List Rule
 solving_pairs f M N h = unless (Within 3 8 M) 1 2 ∷ unless (Within 1 (page_limit f) N) 1 3 ∷ unless (h ≤ 128) 1 6 ∷ []
-
--- what is answered of the pair s < t: its solution with the weight, or that there is none
-abbrev pub Answered : Ops → (N h : ℕ) → Table → (s t : ℕ) → Option PairGap → Type 0
-Answered f N h T s t (Some gap) = Solution f N h T s t (code_at gap.list) × (gap.weight ≡ weight N (code_at gap.list))
-Answered f N h T s t None = Unsolved f N h T s t
-
--- what is answered at a place: of the pair that stands there
-abbrev pub AnsweredAt : Ops → (M N h : ℕ) → Table → ℕ → Option PairGap → Type 0
-AnsweredAt f M N h T place answer = (s t : ℕ) → Pair M s t → pair_place s t ≡ place → Answered f N h T s t answer
 
 -- every pair is answered, the weights are those of the solutions, and the suspects by what is held are those by the sums
 pub record PairsSolved (f : Ops) (M N h : ℕ) (T : Table) (g : PairGaps) : Type 0 where

@@ -1,13 +1,8 @@
 -- Which pairs of M stations are suspect, by what is held of them.
-use Rattle.std.specs.Prelude.{◌≡◌, ℕ, ◌<◌, Bool, true, false, ◌⊎◌}
+use Rattle.std.specs.Prelude.{◌≡◌, ℕ, ◌<◌, true, false, ◌⊎◌}
 use Rattle.scheme.specs.Pairs.{Pair, Disjoint}
 use Rattle.pairs.specs.declared.pair_gaps.PairGaps.{PairGaps}
-use Rattle.pairs.specs.Held.{pair_place, unsolved_in, weight_in}
-
--- r says whether p holds
-abbrev pub Says : Bool → Type 0 → Type 0
-Says true p = p
-Says false p = ¬ p
+use Rattle.pairs.specs.Held.{unsolved_in, weight_in}
 
 -- the pair u < v has a solution of smaller weight than w
 abbrev pub LighterIn : PairGaps → ℕ → ℕ → ℕ → Type 0
@@ -17,10 +12,6 @@ module _ (M : ℕ) (g : PairGaps) where
   -- every pair disjoint from s and t is lighter than w
   abbrev pub AllLighter : ℕ → ℕ → ℕ → Type 0
   AllLighter w s t = (u v : ℕ) → Pair M u v → Disjoint s t u v → LighterIn g w u v
-
-  -- the pair at a place, if it is disjoint from s and t, is lighter than w
-  abbrev pub LighterAt : ℕ → ℕ → ℕ → ℕ → Type 0
-  LighterAt w s t place = (u v : ℕ) → Pair M u v → pair_place u v ≡ place → Disjoint s t u v → LighterIn g w u v
 
   -- no solution, or every pair disjoint from it has a solution of smaller weight
   abbrev pub SuspectIn : ℕ → ℕ → Type 0

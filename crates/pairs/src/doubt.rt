@@ -1,12 +1,11 @@
 // What shape the suspect pairs have.
-ghost use Rattle.std.specs.Prelude.{◌≡◌, ◌<◌, ◌≤◌, Some};
+ghost use Rattle.std.specs.Prelude.{◌<◌, ◌≤◌, Some};
 ghost use Rattle.scheme.specs.Pairs as shape;
 ghost use Rattle.pairs.specs.Suspects.{SuspectIn};
 ghost use Rattle.pairs.specs.Searching.{FirstApart};
 ghost use Rattle.pairs.specs.Doubts.{Outside, Shape};
 
 use crate::pair_gaps::PairGaps;
-use crate::searching::{first_apart, two_apart};
 
 #[derive(Clone, Copy, PartialEq, Eq, Debug)]
 pub enum Doubt {
@@ -25,36 +24,38 @@ pub enum Doubt {
     Station(usize),
 }
 
-// What shape the suspect pairs have.
-pub fn doubt_in(gaps: &PairGaps) -> Doubt
-    ensures { Shape gaps.now.stations (SuspectIn gaps.now.stations gaps.now) result }
-{
-    if two_apart(gaps) {
-        return Doubt::TwoApart;
+impl PairGaps {
+    // What shape the suspect pairs have.
+    pub fn doubt(&self) -> Doubt
+        ensures { Shape self.now.stations (SuspectIn self.now.stations self.now) result }
+    {
+        if self.has_two_apart() {
+            return Doubt::TwoApart;
+        }
+        match self.first_apart(0, 0) {
+            Some((s, t)) => self.doubt_from(s, t),
+            None => Doubt::Nobody,
+        }
     }
-    match first_apart(gaps, 0, 0) {
-        Some((s, t)) => doubt_from(gaps, s, t),
-        None => Doubt::Nobody,
-    }
-}
 
-// The shape where no two suspect pairs are disjoint, and s < t is the first of them.
-fn doubt_from(gaps: &PairGaps, s: usize, t: usize) -> Doubt
-    requires meeting { shape.TwoApart gaps.now.stations (SuspectIn gaps.now.stations gaps.now) → ⊥ }
-    requires first { FirstApart gaps.now.stations (SuspectIn gaps.now.stations gaps.now) 0 0 (Some (s, t)) }
-    ensures { Shape gaps.now.stations (SuspectIn gaps.now.stations gaps.now) result }
-{
-    let Some((_, z)) = first_apart(gaps, s, s) else {
-        return Doubt::Station(s);
-    };
-    let Some(_) = first_apart(gaps, t, t) else {
-        return Doubt::Station(t);
-    };
-    Doubt::Triangle {
-        x: s,
-        y: t,
-        z,
-        outside: lowest_outside(s, t, z),
+    // The shape where no two suspect pairs are disjoint, and s < t is the first of them.
+    fn doubt_from(&self, s: usize, t: usize) -> Doubt
+        requires meeting { shape.TwoApart self.now.stations (SuspectIn self.now.stations self.now) → ⊥ }
+        requires first { FirstApart self.now.stations (SuspectIn self.now.stations self.now) 0 0 (Some (s, t)) }
+        ensures { Shape self.now.stations (SuspectIn self.now.stations self.now) result }
+    {
+        let Some((_, z)) = self.first_apart(s, s) else {
+            return Doubt::Station(s);
+        };
+        let Some(_) = self.first_apart(t, t) else {
+            return Doubt::Station(t);
+        };
+        Doubt::Triangle {
+            x: s,
+            y: t,
+            z,
+            outside: lowest_outside(s, t, z),
+        }
     }
 }
 
@@ -62,21 +63,5 @@ fn doubt_from(gaps: &PairGaps, s: usize, t: usize) -> Doubt
 fn lowest_outside(x: usize, y: usize, z: usize) -> usize
     ensures { 1 ≤ x → x < y → y < z → Outside 4 x y z result }
 {
-    if x != 1 {
-        1
-    } else if y != 2 {
-        2
-    } else if z != 3 {
-        3
-    } else {
-        4
-    }
-}
-
-impl PairGaps {
-    pub fn doubt(&self) -> Doubt
-        ensures { Shape self.now.stations (SuspectIn self.now.stations self.now) result }
-    {
-        doubt_in(self)
-    }
+    (1..=3).find(|s| ![x, y, z].contains(s)).unwrap_or(4)
 }

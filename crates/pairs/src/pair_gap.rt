@@ -5,8 +5,8 @@ use solve::Entry;
 
 // How many pages the difference has on which it is not 0, and their list.
 #[derive(Clone, Copy)]
-pub(crate) struct PairGap {
-    pub(crate) weight: usize,
-    pub(crate) list: [Entry; 129],
+pub struct PairGap {
+    pub weight: usize,
+    pub list: [Entry; 129],
     ghost full: { length list ≡ 129 },
 }

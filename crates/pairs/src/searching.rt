@@ -1,54 +1,31 @@
 // Seeking suspect pairs.
-ghost use Rattle.scheme.specs.Pairs.{Pair, TwoApart};
-ghost use Rattle.pairs.specs.Suspects.{Says, SuspectIn};
-ghost use Rattle.pairs.specs.Searching.{Apart, FirstApart, Crossed};
+ghost use Rattle.std.specs.Prelude.{MatchBool};
+ghost use Rattle.scheme.specs.Pairs.{TwoApart};
+ghost use Rattle.pairs.specs.Suspects.{SuspectIn};
+ghost use Rattle.pairs.specs.Searching.{FirstApart};
 
 use crate::pair_gaps::PairGaps;
-use crate::suspects::{disjoint, suspect};
+use crate::seeking::first_pair;
+use crate::suspects::disjoint;
 
-// Whether there are two disjoint suspect pairs.
-pub(crate) fn two_apart(gaps: &PairGaps) -> bool
-    ensures { Says result (TwoApart gaps.now.stations (SuspectIn gaps.now.stations gaps.now)) }
-{
-    for place in 0..64 {
-        if crossed(gaps, place / 8 + 1, place % 8 + 1) {
-            return true;
-        }
+impl PairGaps {
+    // Whether there are two disjoint suspect pairs.
+    pub(crate) fn has_two_apart(&self) -> bool
+        ensures { MatchBool result (TwoApart self.now.stations (SuspectIn self.now.stations self.now))
+            (¬ TwoApart self.now.stations (SuspectIn self.now.stations self.now)) }
+    {
+        first_pair(self.stations, |s, t| {
+            self.is_suspect(s, t) && self.first_apart(s, t).is_some()
+        })
+        .is_some()
     }
-    false
-}
 
-// Whether s < t is a suspect pair, and there is one disjoint from it.
-fn crossed(gaps: &PairGaps, s: usize, t: usize) -> bool
-    ensures { Says result (Crossed gaps.now.stations (SuspectIn gaps.now.stations gaps.now) s t) }
-{
-    suspect_pair(gaps, s, t) && first_apart(gaps, s, t).is_some()
-}
-
-// The first suspect pair without x and y.
-pub(crate) fn first_apart(gaps: &PairGaps, x: usize, y: usize) -> Option<(usize, usize)>
-    ensures { FirstApart gaps.now.stations (SuspectIn gaps.now.stations gaps.now) x y result }
-{
-    for place in 0..64 {
-        let u = place / 8 + 1;
-        let v = place % 8 + 1;
-        if apart(gaps, x, y, u, v) {
-            return Some((u, v));
-        }
+    // The first suspect pair without x and y.
+    pub(crate) fn first_apart(&self, x: usize, y: usize) -> Option<(usize, usize)>
+        ensures { FirstApart self.now.stations (SuspectIn self.now.stations self.now) x y result }
+    {
+        first_pair(self.stations, |u, v| {
+            disjoint(x, y, u, v) && self.is_suspect(u, v)
+        })
     }
-    None
-}
-
-// Whether u < v is a suspect pair without x and y.
-fn apart(gaps: &PairGaps, x: usize, y: usize, u: usize, v: usize) -> bool
-    ensures { Says result (Apart gaps.now.stations (SuspectIn gaps.now.stations gaps.now) x y u v) }
-{
-    disjoint(x, y, u, v) && suspect_pair(gaps, u, v)
-}
-
-// Whether s < t is a suspect pair.
-fn suspect_pair(gaps: &PairGaps, s: usize, t: usize) -> bool
-    ensures { Says result (Pair gaps.now.stations s t × SuspectIn gaps.now.stations gaps.now s t) }
-{
-    0 < s && s < t && t <= gaps.stations && suspect(gaps, s, t)
 }

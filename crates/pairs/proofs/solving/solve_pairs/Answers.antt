@@ -8,5 +8,5 @@ returns g c =
     let accepted = c.in_ok-accept.ensures in (
       accepted,
       pairs_solved g.met.F.Field.lawful g.met.F.Field.spread c.args.pages c.args.sums (sum_in c.args.tally.now c.args.pages) _
-          (omega (arith, accepted.1.0.1)) (λ k b. c.loop-place.invariant.1 k (omega arith)),
+          (omega (arith, accepted.1.0.1)) (λ s t p. c.loop-s.invariant.1 s t p (omega arith)),
     )
