@@ -1,3 +1,3 @@
-pub mod Places
-pub mod Filling
 pub mod Lightest
+pub mod Filling
+pub mod Ended

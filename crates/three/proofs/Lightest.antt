@@ -9,7 +9,7 @@ use Rattle.scheme.specs.Pairs.{Pair}
 use Rattle.scheme.specs.Differences.{Solution}
 use Rattle.solve.specs.Answer.{code_at}
 use Rattle.three.specs.declared.difference.Difference.{Difference}
-use Rattle.three.specs.Solved.{Differs, DifferenceOf}
+use Rattle.three.specs.Solved.{DifferenceOf}
 use Rattle.three.specs.Pairs.{lighter, TakenFrom}
 
 module _ (f : Ops) (N bound : ℕ) (T : Table) where
@@ -20,10 +20,10 @@ module _ (f : Ops) (N bound : ℕ) (T : Table) where
   record Best (n : ℕ) (x : Difference) : Type 0 where
     pair : Pair 3 x.first x.second
     low : x.first + x.second ≤ n
-    solved : Sol x.first x.second (code_at x.list)
-    own : weight N (code_at x.list) ≡ x.weight
-    least : (u v : ℕ) (d : ℕ → ℕ) → Pair 3 u v → u + v ≤ n → Sol u v d → x.weight ≤ weight N d
-    first : (u v : ℕ) (d : ℕ → ℕ) → Pair 3 u v → u + v ≤ n → Sol u v d → u + v < x.first + x.second → x.weight < weight N d
+    solved : Sol x.first x.second (code_at x.gap.list)
+    own : weight N (code_at x.gap.list) ≡ x.gap.weight
+    least : (u v : ℕ) (d : ℕ → ℕ) → Pair 3 u v → u + v ≤ n → Sol u v d → x.gap.weight ≤ weight N d
+    first : (u v : ℕ) (d : ℕ → ℕ) → Pair 3 u v → u + v ≤ n → Sol u v d → u + v < x.first + x.second → x.gap.weight < weight N d
 
   abbrev BestOf : ℕ → Option Difference → Type 0
   BestOf n (Some x) = Best n x
@@ -38,21 +38,21 @@ module _ (f : Ops) (N bound : ℕ) (T : Table) where
         let us : u ≡ s = omega arith in let vt : v ≡ t = omega arith in
         subst₂ (λ u v. Sol u v d) us vt x
 
-    alone : (y : Difference) → Differs f N (first_sums 3 bound / 2) (first_sums 3 bound) T s t y
-        → ((u v : ℕ) (d : ℕ → ℕ) → Pair 3 u v → u + v ≤ n → Sol u v d → y.weight < weight N d) → Best (n + 1) y
+    alone : (y : Difference) → Found s t (Some y)
+        → ((u v : ℕ) (d : ℕ → ℕ) → Pair 3 u v → u + v ≤ n → Sol u v d → y.gap.weight < weight N d) → Best (n + 1) y
     alone y h old = record {
-      pair = subst₂ (Pair 3) (sym h.from) (sym h.to) p;
-      low = let a = h.from in let b = h.to in omega arith;
-      solved = subst₂ (λ u v. Sol u v (code_at y.list)) (sym h.from) (sym h.to) h.solves;
-      own = h.weighs (code_at y.list) h.solves;
+      pair = subst₂ (Pair 3) (sym h.0) (sym h.1) p;
+      low = let a = h.0 in let b = h.1 in omega arith;
+      solved = subst₂ (λ u v. Sol u v (code_at y.gap.list)) (sym h.0) (sym h.1) h.2.solves;
+      own = h.2.weighs (code_at y.gap.list) h.2.solves;
       least = λ u v d q b x. elim (dec_le (u + v) n) [
         | yes k ↦ omega (arith, old u v d q k x)
-        | no k ↦ omega (arith, h.weighs d (same u v d q k b x))
+        | no k ↦ omega (arith, h.2.weighs d (same u v d q k b x))
       ];
-      first = λ u v d q b x less. let a = h.from in let c = h.to in old u v d q (omega arith) x;
+      first = λ u v d q b x less. let a = h.0 in let c = h.1 in old u v d q (omega arith) x;
     }
 
-    keep : (x : Difference) → Best n x → ((d : ℕ → ℕ) → Sol s t d → x.weight ≤ weight N d) → Best (n + 1) x
+    keep : (x : Difference) → Best n x → ((d : ℕ → ℕ) → Sol s t d → x.gap.weight ≤ weight N d) → Best (n + 1) x
     keep x h new = record {
       pair = h.pair;
       low = let a = h.low in omega arith;
@@ -69,11 +69,11 @@ module _ (f : Ops) (N bound : ℕ) (T : Table) where
     one_more None None a b = λ u v q k d x. elim (dec_le (u + v) n) [ yes l ↦ a u v q l d x | no l ↦ b d (same u v d q l k x) ]
     one_more None (Some y) a b = alone y b (λ u v d q k x. absurd (a u v q k d x))
     one_more (Some x) None a b = keep x a (λ d z. absurd (b d z))
-    one_more (Some x) (Some y) a b = by (ltb y.weight x.weight) refl
+    one_more (Some x) (Some y) a b = by (ltb y.gap.weight x.gap.weight) refl
       where
-        by : (r : Bool) → ltb y.weight x.weight ≡ r → BestOf (n + 1) (cond r (Some y) (Some x))
-        by true e = alone y b (λ u v d q k z. omega (arith, a.least u v d q k z, ltb-true y.weight x.weight e))
-        by false e = keep x a (λ d z. omega (arith, b.weighs d z, ltb-false y.weight x.weight e))
+        by : (r : Bool) → ltb y.gap.weight x.gap.weight ≡ r → BestOf (n + 1) (cond r (Some y) (Some x))
+        by true e = alone y b (λ u v d q k z. omega (arith, a.least u v d q k z, ltb-true y.gap.weight x.gap.weight e))
+        by false e = keep x a (λ d z. omega (arith, b.2.weighs d z, ltb-false y.gap.weight x.gap.weight e))
 
   best_taken : (x : Option Difference) → BestOf 5 x → TakenFrom f N bound T x
   best_taken None h = λ s t p d x. h s t p (omega arith) d x

@@ -13,7 +13,7 @@ use Rattle.three.specs.declared.difference.Difference.{Difference}
 abbrev pub lighter : Option Difference → Option Difference → Option Difference
 lighter None y = y
 lighter (Some x) None = Some x
-lighter (Some x) (Some y) = cond (nat_lt y.weight x.weight) (Some y) (Some x)
+lighter (Some x) (Some y) = cond (nat_lt y.gap.weight x.gap.weight) (Some y) (Some x)
 
 -- no pair is solved by the first sums
 abbrev pub NoneSolved : (f : Ops) (N bound : ℕ) → Table → Type 0
@@ -21,5 +21,5 @@ NoneSolved f N bound T = (s t : ℕ) → Pair 3 s t → Unsolved f N (first_sums
 
 -- the pair with its difference, or that none is solved
 abbrev pub TakenFrom : (f : Ops) (N bound : ℕ) → Table → Option Difference → Type 0
-TakenFrom f N bound T (Some x) = Taken f N bound T x.first x.second (code_at x.list)
+TakenFrom f N bound T (Some x) = Taken f N bound T x.first x.second (code_at x.gap.list)
 TakenFrom f N bound T None = NoneSolved f N bound T

@@ -1,22 +1,18 @@
 // The difference of two rows of a tally, solved from their sums.
-ghost use Rattle.std.specs.Prelude.{◌≡◌, ℕ, ◌+◌, ◌<◌, ◌≤◌, length, slice_index};
-ghost use Rattle.field.specs.Field.{page_limit};
-ghost use Rattle.scheme.specs.Differences.{gap};
 ghost use Rattle.solve.specs.Solution.{Enough};
-ghost use Rattle.tally.specs.Rows;
+ghost use Rattle.tally.specs.Rows.{sum_in};
 ghost use Rattle.three.specs.Solved.{DifferenceOf};
 
 use field::Field;
-use solve::{Entry, solve};
-use tally::sum_in;
+use pairs::{PairGap, solve_pair};
+use tally::{Farm, Rows};
 
-// What row `first` has minus what row `second` has: the pages where it is not 0 with their codes, and how many these are.
+// What row `first` has minus what row `second` has.
 #[derive(Clone, Copy)]
 pub(crate) struct Difference {
     pub first: usize,
     pub second: usize,
-    pub weight: usize,
-    pub list: [Entry; 129],
+    pub gap: PairGap,
 }
 
 // The difference of two rows by so many sums, with at most `weight` codes that are not 0, if there is one.
@@ -36,9 +32,12 @@ pub(crate) fn solve_difference<F: Field>(
         stations: farm.stations,
         pages: farm.pages,
     };
-    match pairs::solve_pair::<F>(&rows, first, second, count, weight) {
-        Ok(Some(gap)) => Some(Difference { first, second, weight: gap.weight, list: gap.list }),
-        Ok(None) => None,
-        Err(_) => unreachable(),
-    }
+    let Ok(gap) = solve_pair::<F>(&rows, first, second, count, weight) else {
+        unreachable()
+    };
+    Some(Difference {
+        first,
+        second,
+        gap: gap?,
+    })
 }

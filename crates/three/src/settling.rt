@@ -40,16 +40,22 @@ pub(crate) fn settle_taken<F: Field>(
     taken: &Difference,
 ) -> Outcome
     requires rows_reach { Rows.tally_size 3 farm.now.pages ≤ length tally.old }
-    requires taken { Three.Taken F.Field.ops farm.now.pages farm.now.bound (Rows.sum_in tally.old farm.now.pages) taken.now.first taken.now.second (Answer.code_at taken.now.list) }
+    requires taken { Three.Taken F.Field.ops farm.now.pages farm.now.bound (Rows.sum_in tally.old farm.now.pages) taken.now.first taken.now.second (Answer.code_at taken.now.gap.list) }
     ensures { SettledTaken F.Field.ops farm.now.pages farm.now.bound tally.old tally.new result }
 {
     let other = third(taken.first, taken.second);
     let Some(anew) = solve_difference(farm, tally, 1, other, farm.all_sums(), farm.bound) else {
         return Outcome::Over;
     };
-    put_row::<F, _>(tally, farm.pages, 1, other, |page| code_at(&anew.list, page));
+    put_row::<F, _>(
+        tally,
+        farm.pages,
+        1,
+        other,
+        |page| code_at(&anew.gap.list, page),
+    );
     put_row::<F, _>(tally, farm.pages, taken.first, taken.second, |page| {
-        code_at(&taken.list, page)
+        code_at(&taken.gap.list, page)
     });
     Outcome::Filled
 }

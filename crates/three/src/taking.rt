@@ -25,7 +25,7 @@ fn lighter(first: Option<Difference>, second: Option<Difference>) -> Option<Diff
     ensures { result ≡ Pairs.lighter first second }
 {
     match (first, second) {
-        (Some(one), Some(other)) if other.weight < one.weight => Some(other),
+        (Some(one), Some(other)) if other.gap.weight < one.gap.weight => Some(other),
         (Some(one), _) => Some(one),
         (None, other) => other,
     }
