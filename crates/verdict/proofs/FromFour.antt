@@ -1,12 +1,13 @@
--- What holds of four stations and more, and of three, as what holds of any number.
+-- What holds of four stations and more, as what holds of any number.
 use Rattle.std.proofs.Common.{◌≡◌, ℕ, ◌≤◌, List, inl, inr, arith}
 use Rattle.field.specs.Field.{Ops}
 use Rattle.refusal.specs.declared.Refusal.{Refusal}
 use Rattle.refusal.specs.Rules.{Accepted, Refused}
-use Rattle.four.specs.declared.outcome.Outcome.{Outcome}
-use Rattle.four.specs.declared.outcome.Outcome.TheVariants.{Over, Split, Filled, Asks}
+use Rattle.tally.specs.declared.outcome.Outcome.{Outcome}
+use Rattle.tally.specs.declared.outcome.Outcome.TheVariants.{Over, Split, Filled, Asks}
+use Rattle.tally.specs.Judging.{judging}
 use Rattle.four.specs.Outcomes.{four_stations, WeighedFour, SettledFour}
-use Rattle.verdict.specs.Judging.{judging, Weighed, Settled}
+use Rattle.verdict.specs.Judging.{Weighed, Settled}
 
 module _ (f : Ops) (M N bound room : ℕ) (other : M ≡ 3 → ⊥) where
   pub accepted : Accepted (four_stations f M N bound room) → Accepted (judging f M N bound room)
@@ -29,4 +30,4 @@ module _ (f : Ops) (M N bound : ℕ) (before after : List ℕ) (four : 4 ≤ M) 
   settled (Split n) x = (inl (inl (four, x.0)), x.1)
   settled Filled (R, inl x, rows) = (R, inl (inl (four, x)), rows)
   settled Filled (R, inr x, rows) = (R, inr (inl (four, x)), rows)
-  settled (Asks k) x = x
+  settled (Asks k) x = absurd x.0

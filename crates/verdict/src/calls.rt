@@ -1,11 +1,13 @@
 // Weighing after the first asking, and settling after the second.
 ghost use Rattle.std.specs.Prelude.{◌≡◌, length, MatchResult};
 ghost use Rattle.refusal.specs.Rules.{Refused, Accepted};
-ghost use Rattle.verdict.specs.Judging.{judging, Weighed, Settled, of_weighing, of_settling};
+ghost use Rattle.tally.specs.Judging.{judging};
+ghost use Rattle.verdict.specs.Judging.{Weighed, Settled};
 
 use field::Field;
-use four::{Outcome, settle_four, weigh_four};
+use four::{settle_four, weigh_four};
 use refusal::Refusal;
+use tally::Outcome;
 use three::{settle_three, weigh_three};
 
 // What the first sums of all rows say, in a check that is not plain: it is over, a page is split, the rows are filled, or a station is to be asked again.
@@ -21,12 +23,10 @@ pub fn weigh<F: Field>(
         × Weighed F.Field.ops stations pages bound tally.old tally.new outcome)
         (λ refusal. Refused (judging F.Field.ops stations pages bound (length tally.old)) refusal × (tally.new ≡ tally.old)) }
 {
-    if stations != 3 {
-        return weigh_four::<F>(stations, pages, bound, tally);
-    }
-    match weigh_three::<F>(pages, bound, tally) {
-        Ok(weighed) => Ok(outcome_of_weighing(weighed)),
-        Err(refusal) => Err(refusal),
+    if stations == 3 {
+        weigh_three::<F>(pages, bound, tally)
+    } else {
+        weigh_four::<F>(stations, pages, bound, tally)
     }
 }
 
@@ -42,30 +42,9 @@ pub fn settle<F: Field>(
         × Settled F.Field.ops stations pages bound tally.old tally.new outcome)
         (λ refusal. Refused (judging F.Field.ops stations pages bound (length tally.old)) refusal × (tally.new ≡ tally.old)) }
 {
-    if stations != 3 {
-        return settle_four::<F>(stations, pages, bound, tally);
-    }
-    match settle_three::<F>(pages, bound, tally) {
-        Ok(settled) => Ok(outcome_of_settling(settled)),
-        Err(refusal) => Err(refusal),
-    }
-}
-
-fn outcome_of_weighing(weighed: three::Weighed) -> Outcome
-    ensures { result ≡ of_weighing weighed }
-{
-    match weighed {
-        three::Weighed::Over => Outcome::Over,
-        three::Weighed::Filled => Outcome::Filled,
-        three::Weighed::Asks(station) => Outcome::Asks(station),
-    }
-}
-
-fn outcome_of_settling(settled: three::Settled) -> Outcome
-    ensures { result ≡ of_settling settled }
-{
-    match settled {
-        three::Settled::Over => Outcome::Over,
-        three::Settled::Filled => Outcome::Filled,
+    if stations == 3 {
+        settle_three::<F>(pages, bound, tally)
+    } else {
+        settle_four::<F>(stations, pages, bound, tally)
     }
 }

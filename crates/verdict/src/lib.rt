@@ -4,4 +4,4 @@
 mod calls;
 
 pub use calls::{settle, weigh};
-pub use four::Outcome;
+pub use tally::Outcome;
