@@ -1,8 +1,6 @@
 -- What the laws of a field give.
-use mathlib.Core.Path.{◌≡◌, sym, ap, ◌∙◌}
-use Prim.Native.Nat.{ℕ, zero, suc, ◌+◌, ◌*◌, ◌/◌, ◌%◌, ◌<◌}
-use native.Mathlib.Nat.{add-suc, add-zero, mul-suc, mul-zero, mod-eq_of_lt, mod-mod, zero-mod}
-use native.Mathlib.Omega.{arith}
+use Rattle.std.proofs.Common.{◌≡◌, sym, ap, ◌∙◌, ℕ, zero, suc, ◌+◌, ◌*◌, ◌/◌, ◌%◌, ◌<◌, add-suc, add-zero, mul-suc, mul-zero, mod-eq_of_lt, arith}
+use Rattle.std.proofs.Math.Nat.{mod-mod, zero-mod}
 use Rattle.field.specs.Field.{Ops, Laws, Modular, power}
 use Rattle.field.specs.Sums.{total}
 
@@ -13,6 +11,13 @@ module _ {f : Ops} (l : Laws f) where
   pub one_code : 1 < f.size
   one_code = omega (arith, l.size_least)
 
+  -- a code with nothing added, and a code once
+  pub plus_zero_code : (a : ℕ) → a < f.size → f.plus a 0 ≡ a
+  plus_zero_code a h = l.plus_zero a ∙ code_mod a h
+
+  pub times_one_code : (a : ℕ) → a < f.size → f.times a 1 ≡ a
+  times_one_code a h = l.times_one a ∙ code_mod a h
+
   pub zero_plus : (a : ℕ) → f.plus 0 a ≡ a % f.size
   zero_plus a = l.plus_comm 0 a ∙ l.plus_zero a
 
@@ -20,13 +25,13 @@ module _ {f : Ops} (l : Laws f) where
   one_times a = l.times_comm 1 a ∙ l.times_one a
 
   pub plus_mod_right : (a b : ℕ) → f.plus a (b % f.size) ≡ f.plus a b
-  plus_mod_right a b = ap (f.plus a) (sym (l.plus_zero b)) ∙ sym (l.plus_assoc a b 0) ∙ l.plus_zero (f.plus a b) ∙ code_mod _ (l.plus_code a b)
+  plus_mod_right a b = ap (f.plus a) (sym (l.plus_zero b)) ∙ sym (l.plus_assoc a b 0) ∙ plus_zero_code _ (l.plus_code a b)
 
   pub plus_mod_left : (a b : ℕ) → f.plus (a % f.size) b ≡ f.plus a b
   plus_mod_left a b = l.plus_comm (a % f.size) b ∙ plus_mod_right b a ∙ l.plus_comm b a
 
   pub times_mod_right : (a b : ℕ) → f.times a (b % f.size) ≡ f.times a b
-  times_mod_right a b = ap (f.times a) (sym (l.times_one b)) ∙ sym (l.times_assoc a b 1) ∙ l.times_one (f.times a b) ∙ code_mod _ (l.times_code a b)
+  times_mod_right a b = ap (f.times a) (sym (l.times_one b)) ∙ sym (l.times_assoc a b 1) ∙ times_one_code _ (l.times_code a b)
 
   pub times_mod_left : (a b : ℕ) → f.times (a % f.size) b ≡ f.times a b
   times_mod_left a b = l.times_comm (a % f.size) b ∙ times_mod_right b a ∙ l.times_comm b a
@@ -74,7 +79,7 @@ module _ {f : Ops} (l : Laws f) where
   power_code a (suc n) = l.times_code (power f a n) a
 
   pub power_add : (a m n : ℕ) → power f a (m + n) ≡ f.times (power f a m) (power f a n)
-  power_add a m zero = rw add-zero (sym (l.times_one (power f a m) ∙ code_mod _ (power_code a m)))
+  power_add a m zero = rw add-zero (sym (times_one_code _ (power_code a m)))
   power_add a m (suc n) =
       rw add-suc (ap (λ x. f.times x a) (power_add a m n) ∙ l.times_assoc (power f a m) (power f a n) a)
 
@@ -105,11 +110,10 @@ module _ {f : Ops} (l : Laws f) where
   square_odd p b n e =
       let h = n / 2 in
       let is : n ≡ suc (2 * h) = omega arith in
-      ap (f.times (f.times p b)) (power_square b h)
-      ∙ l.times_assoc p b (power f b (2 * h))
-      ∙ ap (f.times p) (l.times_comm b (power f b (2 * h)) ∙ ap (power f b) (sym is))
+      let last : power f b n ≡ f.times (power f b (2 * h)) b = ap (power f b) is in
+      cc (power_square b h, l.times_assoc p b (power f b (2 * h)), l.times_comm b (power f b (2 * h)))
 
   pub square_even : (p b n : ℕ) → (n % 2 ≡ 1 → ⊥) → f.times p (power f (f.times b b) (n / 2)) ≡ f.times p (power f b n)
   square_even p b n e =
       let is : n ≡ 2 * (n / 2) = omega arith in
-      ap (f.times p) (power_square b (n / 2) ∙ ap (power f b) (sym is))
+      cc (power_square b (n / 2))
