@@ -1,11 +1,7 @@
 -- The words of w bits are a field wherever two tests pass at the powers of two, which compute.
-use Rattle.std.specs.Prelude.{◌≡◌, ◌⊎◌, List, T}
-use Rattle.std.proofs.Math.Path.{refl, sym, ap}
-use Rattle.std.proofs.Common.{◌∙◌, div-add-mod', mod-lt, pow_mono, lit<}
-use Rattle.std.proofs.Math.Logic.{⊎_elim}
-use Prim.Native.Nat.{ℕ, zero, suc, ◌-◌, ◌*◌, ◌/◌, ◌%◌, ◌^◌, ◌<◌, ◌≤◌}
-use Rattle.std.proofs.Math.Nat.{mod-mod, mod-eq_of_lt}
-use native.Mathlib.Omega.{arith}
+use Rattle.std.specs.Prelude.{◌≡◌, ◌⊎◌, List, T, refl, ℕ, zero, suc, ◌-◌, ◌*◌, ◌/◌, ◌%◌, ◌^◌, ◌<◌, ◌≤◌}
+use Rattle.std.proofs.Common.{sym, ap, ◌∙◌, div-add-mod', mod-lt, pow_mono, lit<, ⊎_elim, mod-eq_of_lt, arith}
+use Rattle.std.proofs.Math.Nat.{mod-mod}
 use Rattle.std.specs.Int.Bits.{bit_xor, xor_assoc, xor_self, xor_zero_r}
 use Rattle.std.proofs.lemmas.Nat.{xor_comm, xor_mod, xor_shr, xor_lt}
 use Rattle.field.specs.Field.{Laws}

@@ -1,18 +1,12 @@
 -- One turn of the loop takes one bit of the product that is left.
-use mathlib.Core.Path.{◌≡◌, sym, ap, subst, ◌∙◌}
-use Prim.Native.Nat.{ℕ, suc, ◌+◌, ◌-◌, ◌*◌, ◌/◌, ◌%◌, ◌^◌, ◌<◌}
-use native.Mathlib.Omega.{arith}
-use lib.Bits.{bit_xor, xor_assoc, xor_zero_r}
-use lib.Pow.{pow-lt}
-use mir.Facts.{Fits-le, Fits-of_lt}
+use Rattle.std.proofs.Common.{◌≡◌, sym, ap, subst, ◌∙◌, ℕ, suc, ◌+◌, ◌-◌, ◌*◌, ◌/◌, ◌%◌, ◌^◌, ◌<◌, arith, bit_xor, Fits-le}
+use Rattle.std.specs.Int.Bits.{xor_assoc, xor_zero_r}
+use Rattle.std.proofs.Math.Pow.{pow-lt}
+use Rattle.std.proofs.Math.Facts.{Fits-of_lt}
 use Rattle.binary.specs.Binary.{shifted, product}
 use Rattle.binary.specs.Linear.{bit_le}
 use Rattle.binary.specs.Products.{shifted_code}
 use Rattle.binary.proofs.product.multiply.Goals as goal
-
-pub overflow_mul-sum : goal.overflow_mul-sum
-overflow_mul-sum g c =
-    Fits-le (bit_le _ c.loop-k.x) (Fits-of_lt (omega (arith, c.loop-k.invariant.1, pow-lt g.met.M.Modulus.degree.few)))
 
 pub loop-k-preserved : goal.loop-k-preserved
 unfolding product

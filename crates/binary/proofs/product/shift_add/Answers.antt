@@ -1,7 +1,5 @@
 -- One shift is the product with alpha.
-use mathlib.Core.Path.{ap, ◌∙◌}
-use Prim.Native.Nat.{◌%◌, ◌^◌}
-use lib.Bits.{bit_xor}
+use Rattle.std.proofs.Common.{ap, ◌∙◌, ◌%◌, ◌^◌, bit_xor}
 use Rattle.binary.specs.Binary.{shifted}
 use Rattle.binary.specs.Products.{shifted_plus}
 use Rattle.binary.proofs.product.shift_add.Goals as goal
