@@ -151,10 +151,8 @@ module _ (w poly : ℕ) where
 
     times_shifted : (a b : ℕ) → b < q → t a (shifted w poly b) ≡ shifted w poly (t a b)
     times_shifted a b h =
-        comm a (shifted w poly b)
-        ∙ ap (λ u. product w poly w u (a % q)) (mod-eq_of_lt (shifted_code b h) ∙ ap (shifted w poly) (sym (mod-eq_of_lt h)))
-        ∙ product_shifted w (b % q) (a % q)
-        ∙ ap (shifted w poly) (comm b a)
+        let reduced : shifted w poly b % q ≡ shifted w poly (b % q) = mod-eq_of_lt (shifted_code b h) ∙ ap (shifted w poly) (sym (mod-eq_of_lt h)) in
+        cc (comm a (shifted w poly b), product_shifted w (b % q) (a % q), comm b a)
 
     times_moved : (j a b : ℕ) → b < q → t a (moved j b) ≡ moved j (t a b)
     unfolding moved
@@ -163,10 +161,8 @@ module _ (w poly : ℕ) where
 
     assoc_power : (a b j : ℕ) → j < w → t (t a b) (2 ^ j) ≡ t a (t b (2 ^ j))
     assoc_power a b j h =
-        times_power (t a b) j h
-        ∙ ap (moved j) (mod-eq_of_lt (times_code a b) ∙ sym (times_reduce a b))
-        ∙ sym (times_moved j a (b % q) (code b))
-        ∙ ap (t a) (sym (times_power b j h))
+        let reduced : t a b % q ≡ t a b = mod-eq_of_lt (times_code a b) in
+        cc (times_power (t a b) j h, times_reduce a b, times_moved j a (b % q) (code b), times_power b j h)
 
     pub assoc : (a b c : ℕ) → t (t a b) c ≡ t a (t b c)
     assoc a b c =
