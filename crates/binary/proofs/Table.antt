@@ -1,5 +1,5 @@
 -- A table of the powers of alpha in the small field, by one test over the whole table.
-use Rattle.std.proofs.Common.{◌≡◌, refl, sym, ap, subst, ◌∙◌, Bool, true, List, [], ◌∷◌, ℕ, zero, suc, ◌+◌, ◌*◌, ◌/◌, ◌%◌, ◌<◌, add-zero, zero-add, add-suc, suc-add, add_comm, mod-lt, le_of_suc-le-suc, not-suc-le-zero, arith, T, eqb, eqb→eq, lit<, length, get_or}
+use Rattle.std.proofs.Common.{◌≡◌, refl, sym, ap, subst, ◌∙◌, Bool, true, List, [], ◌∷◌, ℕ, zero, suc, ◌+◌, ◌*◌, ◌/◌, ◌%◌, ◌<◌, add-zero, zero-add, add-suc, suc-add, mod-lt, le_of_suc-le-suc, not-suc-le-zero, arith, T, eqb, eqb→eq, lit<, length, get_or}
 use Rattle.std.proofs.Math.Nat.{div-add-mod}
 use Rattle.field.specs.Field.{Ops, Laws, power}
 use Rattle.field.proofs.Laws.{times_one_code, power_code, power_add, power_mul}

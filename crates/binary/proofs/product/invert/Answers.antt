@@ -1,6 +1,6 @@
 -- One turn of the loop takes one square into the product.
-use Rattle.std.proofs.Common.{◌≡◌, refl, ap, ◌∙◌, suc, ◌+◌, ◌-◌, arith}
-use Rattle.binary.specs.Binary.{times, squared, chain}
+use Rattle.std.proofs.Common.{◌≡◌, refl, suc, ◌+◌, ◌-◌, arith}
+use Rattle.binary.specs.Binary.{squared, chain}
 use Rattle.binary.proofs.product.invert.Goals as goal
 
 pub loop-k-init : goal.loop-k-init

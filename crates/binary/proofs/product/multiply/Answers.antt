@@ -1,10 +1,7 @@
 -- One turn of the loop takes one bit of the product that is left.
-use Rattle.std.proofs.Common.{◌≡◌, sym, ap, subst, ◌∙◌, ℕ, suc, ◌+◌, ◌-◌, ◌*◌, ◌/◌, ◌%◌, ◌^◌, ◌<◌, arith, bit_xor, Fits-le}
+use Rattle.std.proofs.Common.{◌≡◌, ap, suc, ◌+◌, ◌-◌, ◌*◌, ◌/◌, ◌%◌, arith, bit_xor}
 use Rattle.std.specs.Int.Bits.{xor_assoc, xor_zero_r}
-use Rattle.std.proofs.Math.Pow.{pow-lt}
-use Rattle.std.proofs.Math.Facts.{Fits-of_lt}
 use Rattle.binary.specs.Binary.{shifted, product}
-use Rattle.binary.specs.Linear.{bit_le}
 use Rattle.binary.specs.Products.{shifted_code}
 use Rattle.binary.proofs.product.multiply.Goals as goal
 

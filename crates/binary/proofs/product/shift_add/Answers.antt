@@ -1,6 +1,4 @@
 -- One shift is the product with alpha.
-use Rattle.std.proofs.Common.{ap, ◌∙◌, ◌%◌, ◌^◌, bit_xor}
-use Rattle.binary.specs.Binary.{shifted}
 use Rattle.binary.specs.Products.{shifted_plus}
 use Rattle.binary.proofs.product.shift_add.Goals as goal
 
