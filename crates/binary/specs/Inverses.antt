@@ -98,16 +98,13 @@ module _ (w poly : ℕ) (back : List ℕ) (given : Computed w poly back) where
   full_square : (n a : ℕ) → suc n ≡ w → a < q → t (chain w poly (suc n) a) (chain w poly (suc n) a) ≡ chain w poly (suc n) a
   unfolding chain
   full_square n a is h =
-      sym (chain_square (suc n) a)
-      ∙ ap (t (chain w poly n (t a a))) (squared_first n a ∙ ap (λ m. squared w poly m a) is ∙ rounded a h)
-      ∙ comm (chain w poly n (t a a)) a
-      ∙ chain_first n a
+      cc (chain_square (suc n) a, squared_first n a, rounded a h, comm (chain w poly n (t a a)) a, chain_first n a)
 
   full_one : (n a : ℕ) → suc n ≡ w → a < q → (a ≡ 0 → ⊥) → chain w poly (suc n) a ≡ 1
   unfolding chain
   full_one n a is h nonzero =
       ⊎_elim
-      (λ e. absurd (nonzero (sym (rounded a h) ∙ ap (λ m. squared w poly m a) (sym is) ∙ sym (times_chain (suc n) a h) ∙ ap (t a) e ∙ products.times_zero w poly a)))
+      (λ e. absurd (nonzero (cc (rounded a h, times_chain (suc n) a h, products.times_zero w poly a))))
       (λ e. e) (own_square (chain w poly (suc n) a) (times_code (chain w poly n a) (squared w poly n a)) (full_square n a is h))
 
   chain_code : (n a : ℕ) → chain w poly n a < q
@@ -124,10 +121,8 @@ module _ (w poly : ℕ) (back : List ℕ) (given : Computed w poly back) where
   inverted : (a : ℕ) → (a % q ≡ 0 → ⊥) → t a (inverse a) ≡ 1
   inverted a nonzero =
       let is : suc (w - 1) ≡ w = omega (arith, given.least) in
-      sym (products.reduce w poly a (inverse a))
-      ∙ ap (t (a % q)) (mod-eq_of_lt (chain_code (w - 1) (t a a)) ∙ sym (inverse_mod a))
-      ∙ chain_first (w - 1) (a % q)
-      ∙ full_one (w - 1) (a % q) is (products.code w poly a) nonzero
+      let code : inverse a % q ≡ inverse a = mod-eq_of_lt (chain_code (w - 1) (t a a)) in
+      cc (products.reduce w poly a (inverse a), inverse_mod a, chain_first (w - 1) (a % q), full_one (w - 1) (a % q) is (products.code w poly a) nonzero)
 
   chain_zero : (n : ℕ) → 0 < n → chain w poly n 0 ≡ 0
   unfolding chain

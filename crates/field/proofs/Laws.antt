@@ -41,7 +41,7 @@ module _ {f : Ops} (l : Laws f) where
   plus_cancel a b c e =
       let z : f.plus c (f.minus 0 c) ≡ 0 = l.plus_comm c (f.minus 0 c) ∙ l.minus_plus 0 c ∙ zero-mod f.size in
       let back : (x : ℕ) → f.plus (f.plus x c) (f.minus 0 c) ≡ x % f.size = λ x. l.plus_assoc x c (f.minus 0 c) ∙ ap (f.plus x) z ∙ l.plus_zero x in
-      sym (back a) ∙ ap (λ x. f.plus x (f.minus 0 c)) e ∙ back b
+      cc (back a, back b)
 
   -- the difference is the one code that, added to b, gives a
   pub minus_unique : (a b c : ℕ) → c < f.size → f.plus c b ≡ a % f.size → c ≡ f.minus a b
@@ -72,7 +72,7 @@ module _ {f : Ops} (l : Laws f) where
   times_cancel a b c h e =
       let u = f.inverse a in
       let back : (x : ℕ) → f.times u (f.times a x) ≡ x % f.size = λ x. sym (l.times_assoc u a x) ∙ ap (λ y. f.times y x) (l.times_comm u a ∙ l.times_inverse a h) ∙ one_times x in
-      sym (back b) ∙ ap (f.times u) e ∙ back c
+      cc (back b, back c)
 
   pub power_code : (a n : ℕ) → power f a n < f.size
   power_code a zero = one_code
@@ -85,13 +85,13 @@ module _ {f : Ops} (l : Laws f) where
 
   pub power_mul : (a m n : ℕ) → power f a (m * n) ≡ power f (power f a m) n
   power_mul a m zero = ap (power f a) (mul-zero m)
-  power_mul a m (suc n) = ap (power f a) (mul-suc m n) ∙ power_add a (m * n) m ∙ ap (λ x. f.times x (power f a m)) (power_mul a m n)
+  power_mul a m (suc n) = cc (mul-suc m n, power_add a (m * n) m, power_mul a m n)
 
   -- squaring the base halves the exponent
   pub power_square : (a n : ℕ) → power f (f.times a a) n ≡ power f a (2 * n)
   power_square a n =
       let e : power f a 2 ≡ f.times a a = ap (λ x. f.times x a) (one_times a) ∙ times_mod_left a a in
-      ap (λ x. power f x n) (sym e) ∙ sym (power_mul a 2 n)
+      cc (power_mul a 2 n)
 
   pub power_nonzero : (a n : ℕ) → (a % f.size ≡ 0 → ⊥) → power f a n ≡ 0 → ⊥
   power_nonzero a zero h e = let k : ◌≡◌ {A = ℕ} 1 0 = e in omega arith

@@ -1,5 +1,5 @@
 -- What filling a page with zero bytes comes to.
-use Rattle.std.proofs.Common.{◌≡◌, ℕ, zero, suc, ◌-◌, ◌<◌, List, [], ◌∷◌, length, replicate, fold, sym, ap, ◌∙◌, arith}
+use Rattle.std.proofs.Common.{◌≡◌, ℕ, zero, suc, ◌-◌, ◌<◌, List, [], ◌∷◌, length, replicate, fold, sym, ◌∙◌, arith}
 use Rattle.std.proofs.lemmas.List.Sums.{fold-append}
 use Rattle.field.specs.Field.{Ops, Laws, power}
 use Rattle.field.proofs.Laws.{plus_zero_code, times_one_code}
@@ -13,10 +13,7 @@ module _ {f : Ops} (l : Laws f) where
       let a = f.alpha in
       let t = f.times s a in
       let once : absorb f s 0 ≡ t = plus_zero_code l t (l.times_code s a) in
-      ap (λ x. fold (absorb f) x (replicate k 0)) once
-      ∙ zeros k t (l.times_code s a)
-      ∙ l.times_assoc s a (power f a k)
-      ∙ ap (f.times s) (l.times_comm a (power f a k))
+      cc (zeros k t (l.times_code s a), l.times_assoc s a (power f a k), l.times_comm a (power f a k))
 
   folded_code : (s : ℕ) (xs : List ℕ) → s < f.size → fold (absorb f) s xs < f.size
   folded_code s [] h = h
