@@ -1,13 +1,8 @@
 -- A table of the powers of alpha in the small field, by one test over the whole table.
-use mathlib.Core.Path.{◌≡◌, refl, sym, ap, subst, ◌∙◌}
-use mathlib.Core.Bool.{Bool, true}
-use mathlib.Core.List.{List, [], ◌∷◌}
-use Prim.Native.Nat.{ℕ, zero, suc, ◌+◌, ◌*◌, ◌/◌, ◌%◌, ◌<◌}
-use native.Mathlib.Nat.{add-zero, zero-add, add-suc, suc-add, add_comm, div-add-mod, mod-lt, le_of_suc-le-suc, not-suc-le-zero}
-use lib.Dec.{T, eqb, eqb→eq, lit<}
-use lib.ListN.{length, get_or}
+use Rattle.std.proofs.Common.{◌≡◌, refl, sym, ap, subst, ◌∙◌, Bool, true, List, [], ◌∷◌, ℕ, zero, suc, ◌+◌, ◌*◌, ◌/◌, ◌%◌, ◌<◌, add-zero, zero-add, add-suc, suc-add, mod-lt, le_of_suc-le-suc, not-suc-le-zero, arith, T, eqb, eqb→eq, lit<, length, get_or}
+use Rattle.std.proofs.Math.Nat.{div-add-mod}
 use Rattle.field.specs.Field.{Ops, Laws, power}
-use Rattle.field.proofs.Laws.{code_mod, power_code, power_add, power_mul}
+use Rattle.field.proofs.Laws.{times_one_code, power_code, power_add, power_mul}
 use Rattle.binary.specs.Binary.{product, small}
 use Rattle.binary.specs.Tests.{both, both_left, both_right}
 use Rattle.binary.specs.Fields.{small_laws}
@@ -27,18 +22,15 @@ stepped f m (x ∷ xs) t (suc k) h =
 module _ {f : Ops} (l : Laws f) where
   power_one : (n : ℕ) → power f 1 n ≡ 1
   power_one zero = refl
-  power_one (suc n) = l.times_one (power f 1 n) ∙ code_mod l _ (power_code l 1 n) ∙ power_one n
+  power_one (suc n) = times_one_code l _ (power_code l 1 n) ∙ power_one n
 
   -- where a^m is 1, the exponents count modulo m
   power_mod : (a m n : ℕ) → power f a m ≡ 1 → power f a (n % m) ≡ power f a n
   power_mod a m n e =
-      let r = power f a (n % m) in
-      let is : n % m + m * (n / m) ≡ n = add_comm (n % m) (m * (n / m)) ∙ div-add-mod n m in
-      let turns : power f a (m * (n / m)) ≡ 1 = power_mul l a m (n / m) ∙ ap (λ x. power f x (n / m)) e ∙ power_one (n / m) in
-      sym (l.times_one r ∙ code_mod l r (power_code l a (n % m)))
-      ∙ ap (f.times r) (sym turns)
-      ∙ sym (power_add l a (n % m) (m * (n / m)))
-      ∙ ap (power f a) is
+      let r = n % m in
+      let k = n / m in
+      let is : r + m * k ≡ n = omega (arith, div-add-mod n m) in
+      cc (times_one_code l (power f a r) (power_code l a r), power_mul l a m k, power_one k, power_add l a r (m * k))
 
 -- a list of 255 that passes the test has alpha^n at n % 255
 pub table : (xs : List ℕ) (n : ℕ) → length xs ≡ 255 → T (steps small 1 xs) → get_or xs (n % 255) 0 ≡ power small 2 n

@@ -1,12 +1,8 @@
 -- The words of w bits are a field wherever two tests pass at the powers of two, which compute.
-use Rattle.std.specs.Prelude.{◌≡◌, ◌⊎◌, List, T}
-use Rattle.std.proofs.Math.Path.{refl, sym, ap}
-use Rattle.std.proofs.Common.{◌∙◌, div-add-mod', mod-lt, pow_mono, lit<}
-use Rattle.std.proofs.Math.Logic.{⊎_elim}
-use Prim.Native.Nat.{ℕ, zero, suc, ◌-◌, ◌*◌, ◌/◌, ◌%◌, ◌^◌, ◌<◌, ◌≤◌}
-use Rattle.std.proofs.Math.Nat.{mod-mod, mod-eq_of_lt}
-use native.Mathlib.Omega.{arith}
-use Rattle.std.specs.Int.Bits.{bit_xor, xor_assoc, xor_self, xor_zero_r}
+use Rattle.std.specs.Prelude.{◌≡◌, ◌⊎◌, List, T, refl, ℕ, zero, suc, ◌-◌, ◌*◌, ◌/◌, ◌%◌, ◌^◌, ◌<◌, ◌≤◌}
+use Rattle.std.proofs.Common.{sym, ap, ◌∙◌, div-add-mod', mod-lt, pow_mono, lit<, ⊎_elim, mod-eq_of_lt, arith}
+use Rattle.std.proofs.Math.Nat.{mod-mod}
+use Rattle.std.specs.Int.Bits.{bit_xor, xor_assoc, xor_self, xor_zero_l, xor_zero_r}
 use Rattle.std.proofs.lemmas.Nat.{xor_comm, xor_mod, xor_shr, xor_lt}
 use Rattle.field.specs.Field.{Laws}
 use Rattle.binary.specs.Binary.{times, squared, chain, binary}
@@ -46,23 +42,21 @@ module _ (w poly : ℕ) (back : List ℕ) (given : Computed w poly back) where
 
   square_linear : Linear (λ x. t x x)
   square_linear x y =
+      let twice : bit_xor (t x y) (bit_xor (t x y) (t y y)) ≡ t y y = sym (xor_assoc (t x y) (t x y) (t y y)) ∙ ap (λ u. bit_xor u (t y y)) (xor_self (t x y)) ∙ xor_zero_l (t y y) in
       products.times_left w poly (bit_xor x y) x y
-      ∙ ap (λ u. bit_xor u (t y (bit_xor x y))) (products.times_right w poly x x y)
-      ∙ ap (bit_xor (bit_xor (t x x) (t x y))) (products.times_right w poly y x y ∙ ap (λ u. bit_xor u (t y y)) (comm y x))
-      ∙ xor_assoc (t x x) (t x y) (bit_xor (t x y) (t y y))
-      ∙ ap (bit_xor (t x x)) (sym (xor_assoc (t x y) (t x y) (t y y)) ∙ ap (λ u. bit_xor u (t y y)) (xor_self (t x y)))
+      ∙ cc (products.times_right w poly x x y, products.times_right w poly y x y, comm y x, xor_assoc (t x x) (t x y) (bit_xor (t x y) (t y y)), twice)
 
   squared_linear : (n : ℕ) → Linear (squared w poly n)
   unfolding squared
   squared_linear zero x y = refl
-  squared_linear (suc n) x y = ap (λ u. t u u) (squared_linear n x y) ∙ square_linear (squared w poly n x) (squared w poly n y)
+  squared_linear (suc n) x y = cc (squared_linear n x y, square_linear (squared w poly n x) (squared w poly n y))
 
   rounded : (a : ℕ) → a < q → squared w poly w a ≡ a
   rounded a h = agree (squared w poly w) (λ x. x) (squared_linear w) (λ x y. refl) w (equal_at (λ i. squared w poly w (2 ^ i)) (λ i. 2 ^ i) w given.round) a h
 
   square_times : (a b : ℕ) → t (t a b) (t a b) ≡ t (t a a) (t b b)
   square_times a b =
-      assoc a b (t a b) ∙ ap (t a) (sym (assoc b a b) ∙ ap (λ u. t u b) (comm b a) ∙ assoc a b b) ∙ sym (assoc a a (t b b))
+      cc (assoc a b (t a b), assoc b a b, comm b a, assoc a b b, assoc a a (t b b))
 
   squared_first : (n a : ℕ) → squared w poly n (t a a) ≡ squared w poly (suc n) a
   unfolding squared
@@ -73,22 +67,18 @@ module _ (w poly : ℕ) (back : List ℕ) (given : Computed w poly back) where
   unfolding squared chain
   chain_first zero a = comm a 1
   chain_first (suc n) a =
-      sym (assoc a (chain w poly n (t a a)) (squared w poly n (t a a)))
-      ∙ ap (λ u. t u (squared w poly n (t a a))) (chain_first n a)
-      ∙ ap (t (chain w poly (suc n) a)) (squared_first n a)
+      cc (assoc a (chain w poly n (t a a)) (squared w poly n (t a a)), chain_first n a, squared_first n a)
 
   chain_square : (n a : ℕ) → chain w poly n (t a a) ≡ t (chain w poly n a) (chain w poly n a)
   unfolding squared chain
   chain_square zero a = sym (times_one 1 ∙ mod-eq_of_lt one_code)
   chain_square (suc n) a =
-      ap (λ u. t u (squared w poly n (t a a))) (chain_square n a)
-      ∙ ap (t (t (chain w poly n a) (chain w poly n a))) (squared_first n a)
-      ∙ sym (square_times (chain w poly n a) (squared w poly n a))
+      cc (chain_square n a, squared_first n a, square_times (chain w poly n a) (squared w poly n a))
 
   times_chain : (n a : ℕ) → a < q → t a (chain w poly n a) ≡ squared w poly n a
   unfolding squared chain
   times_chain zero a h = times_one a ∙ mod-eq_of_lt h
-  times_chain (suc n) a h = sym (assoc a (chain w poly n a) (squared w poly n a)) ∙ ap (λ u. t u (squared w poly n a)) (times_chain n a h)
+  times_chain (suc n) a h = cc (assoc a (chain w poly n a) (squared w poly n a), times_chain n a h)
 
   undo : (x : ℕ) → x < q → apply back (bit_xor (t x x) x) ≡ x / 2 * 2
   undo x h =
@@ -108,16 +98,13 @@ module _ (w poly : ℕ) (back : List ℕ) (given : Computed w poly back) where
   full_square : (n a : ℕ) → suc n ≡ w → a < q → t (chain w poly (suc n) a) (chain w poly (suc n) a) ≡ chain w poly (suc n) a
   unfolding chain
   full_square n a is h =
-      sym (chain_square (suc n) a)
-      ∙ ap (t (chain w poly n (t a a))) (squared_first n a ∙ ap (λ m. squared w poly m a) is ∙ rounded a h)
-      ∙ comm (chain w poly n (t a a)) a
-      ∙ chain_first n a
+      cc (chain_square (suc n) a, squared_first n a, rounded a h, comm (chain w poly n (t a a)) a, chain_first n a)
 
   full_one : (n a : ℕ) → suc n ≡ w → a < q → (a ≡ 0 → ⊥) → chain w poly (suc n) a ≡ 1
   unfolding chain
   full_one n a is h nonzero =
       ⊎_elim
-      (λ e. absurd (nonzero (sym (rounded a h) ∙ ap (λ m. squared w poly m a) (sym is) ∙ sym (times_chain (suc n) a h) ∙ ap (t a) e ∙ products.times_zero w poly a)))
+      (λ e. absurd (nonzero (cc (rounded a h, times_chain (suc n) a h, products.times_zero w poly a))))
       (λ e. e) (own_square (chain w poly (suc n) a) (times_code (chain w poly n a) (squared w poly n a)) (full_square n a is h))
 
   chain_code : (n a : ℕ) → chain w poly n a < q
@@ -134,10 +121,8 @@ module _ (w poly : ℕ) (back : List ℕ) (given : Computed w poly back) where
   inverted : (a : ℕ) → (a % q ≡ 0 → ⊥) → t a (inverse a) ≡ 1
   inverted a nonzero =
       let is : suc (w - 1) ≡ w = omega (arith, given.least) in
-      sym (products.reduce w poly a (inverse a))
-      ∙ ap (t (a % q)) (mod-eq_of_lt (chain_code (w - 1) (t a a)) ∙ sym (inverse_mod a))
-      ∙ chain_first (w - 1) (a % q)
-      ∙ full_one (w - 1) (a % q) is (products.code w poly a) nonzero
+      let code : inverse a % q ≡ inverse a = mod-eq_of_lt (chain_code (w - 1) (t a a)) in
+      cc (products.reduce w poly a (inverse a), inverse_mod a, chain_first (w - 1) (a % q), full_one (w - 1) (a % q) is (products.code w poly a) nonzero)
 
   chain_zero : (n : ℕ) → 0 < n → chain w poly n 0 ≡ 0
   unfolding chain
@@ -149,7 +134,7 @@ module _ (w poly : ℕ) (back : List ℕ) (given : Computed w poly back) where
       sym (inverse_mod a) ∙ ap inverse e ∙ ap (chain w poly (w - 1)) (products.times_zero w poly 0) ∙ chain_zero (w - 1) (omega (arith, given.least))
 
   xor_reduce : (a b : ℕ) → bit_xor (a % q) b % q ≡ bit_xor a b % q
-  xor_reduce a b = xor_mod (a % q) b w ∙ ap (λ u. bit_xor u (b % q)) (mod-mod a q) ∙ sym (xor_mod a b w)
+  xor_reduce a b = cc (xor_mod (a % q) b w, mod-mod a q, xor_mod a b w)
 
   pub laws : (places : ℕ) → Laws (binary w poly places)
   laws places = record {
@@ -161,9 +146,9 @@ module _ (w poly : ℕ) (back : List ℕ) (given : Computed w poly back) where
     times_code = times_code;
     inverse_code = λ a. chain_code (w - 1) (t a a);
     plus_comm = λ a b. ap (λ u. u % q) (xor_comm a b);
-    plus_assoc = λ a b c. xor_reduce (bit_xor a b) c ∙ ap (λ u. u % q) (xor_assoc a b c ∙ xor_comm a (bit_xor b c)) ∙ sym (xor_reduce (bit_xor b c) a) ∙ ap (λ u. u % q) (xor_comm (bit_xor b c % q) a);
+    plus_assoc = λ a b c. cc (xor_reduce (bit_xor a b) c, xor_assoc a b c, xor_comm a (bit_xor b c), xor_reduce (bit_xor b c) a, xor_comm (bit_xor b c % q) a);
     plus_zero = λ a. ap (λ u. u % q) (xor_zero_r a);
-    minus_plus = λ a b. xor_reduce (bit_xor a b) b ∙ ap (λ u. u % q) (xor_assoc a b b ∙ ap (bit_xor a) (xor_self b) ∙ xor_zero_r a);
+    minus_plus = λ a b. cc (xor_reduce (bit_xor a b) b, xor_assoc a b b, xor_self b, xor_zero_r a);
     times_comm = comm;
     times_assoc = assoc;
     times_one = times_one;

@@ -18,16 +18,14 @@ last_bit x = bit (x % 2) (mod-lt x (lit< tt))
 -- (a + b) + (c + d) = (a + c) + (b + d)
 xor4 : (a b c d : ℕ) → bit_xor (bit_xor a b) (bit_xor c d) ≡ bit_xor (bit_xor a c) (bit_xor b d)
 xor4 a b c d =
-    xor_assoc a b (bit_xor c d)
-    ∙ ap (bit_xor a) (sym (xor_assoc b c d) ∙ ap (λ x. bit_xor x d) (xor_comm b c) ∙ xor_assoc c b d)
-    ∙ sym (xor_assoc a c (bit_xor b d))
+    cc (xor_assoc a b (bit_xor c d), xor_assoc b c d, xor_comm b c, xor_assoc c b d, xor_assoc a c (bit_xor b d))
 
 pub zero_of : (f : ℕ → ℕ) → Linear f → f 0 ≡ 0
 zero_of f l = let e : f 0 ≡ bit_xor (f 0) (f 0) = l 0 0 in e ∙ xor_self (f 0)
 
 -- the sum of two linear functions
 pub sum_linear : (f g : ℕ → ℕ) → Linear f → Linear g → Linear (λ x. bit_xor (f x) (g x))
-sum_linear f g lf lg x y = ap (λ u. bit_xor u (g (bit_xor x y))) (lf x y) ∙ ap (bit_xor (bit_xor (f x) (f y))) (lg x y) ∙ xor4 (f x) (f y) (g x) (g y)
+sum_linear f g lf lg x y = cc (lf x y, lg x y, xor4 (f x) (f y) (g x) (g y))
 
 bits_times : (x y a : ℕ) → (x ≡ 0) ⊎ (x ≡ 1) → (y ≡ 0) ⊎ (y ≡ 1) → bit_xor x y * a ≡ bit_xor (x * a) (y * a)
 bits_times x y a (inl e) (inl k) = simp (e, k, zero-mul)
@@ -65,8 +63,8 @@ agree f g lf lg (suc n) at x h =
     let split : x ≡ bit_xor (b * 2 ^ n) r = sym (xor_shifted b n r rl ∙ div-add-mod' x (2 ^ n)) in
     let bl : b < 2 = (div-lt_iff_lt-mul (pow_pos n)).1 (subst (λ (y : ℕ). x < y) (pow-suc 2 n ∙ mul_comm (2 ^ n) 2) h) in
     let low : f r ≡ g r = agree f g lf lg n (λ i k. at i (omega arith)) r rl in
-    let high : f (b * 2 ^ n) ≡ g (b * 2 ^ n) = linear_bit f lf (2 ^ n) b (bit b bl) ∙ ap (λ u. b * u) (at n (omega arith)) ∙ sym (linear_bit g lg (2 ^ n) b (bit b bl)) in
-    ap f split ∙ lf (b * 2 ^ n) r ∙ ap (λ u. bit_xor u (f r)) high ∙ ap (bit_xor (g (b * 2 ^ n))) low ∙ sym (ap g split ∙ lg (b * 2 ^ n) r)
+    let high : f (b * 2 ^ n) ≡ g (b * 2 ^ n) = cc (linear_bit f lf (2 ^ n) b (bit b bl), at n (omega arith), linear_bit g lg (2 ^ n) b (bit b bl)) in
+    cc (lf (b * 2 ^ n) r, lg (b * 2 ^ n) r)
 
 -- the linear function with these values at 1, 2, 4, ..
 abbrev pub apply : List ℕ → ℕ → ℕ

@@ -1,12 +1,10 @@
 -- Products of words are linear, commutative and associative, for every width w and every polynomial of degree w.
-use Rattle.std.specs.Prelude.{◌≡◌, ◌⊎◌}
-use Rattle.std.proofs.Math.Path.{refl, sym, ap, subst}
-use Rattle.std.proofs.Common.{◌∙◌, inl, inr, zero-mul, mod-lt, mod-eq_of_lt, div-lt_iff_lt-mul, pow-suc, le_of_suc-le-suc, not-suc-le-zero, arith}
-use Prim.Native.Nat.{ℕ, zero, suc, ◌*◌, ◌/◌, ◌%◌, ◌^◌, ◌<◌}
-use Rattle.std.proofs.Math.Nat.{one-mul, mod-mod, zero-div, div-eq_of_lt}
+use Rattle.std.specs.Prelude.{◌≡◌, ◌⊎◌, refl, ℕ, zero, suc, ◌*◌, ◌/◌, ◌%◌, ◌^◌, ◌<◌}
+use Rattle.std.proofs.Common.{sym, ap, subst, ◌∙◌, inl, inr, zero-mul, mod-lt, mod-eq_of_lt, div-lt_iff_lt-mul, pow-suc, le_of_suc-le-suc, not-suc-le-zero, arith, one-mul, pow_pos}
+use Rattle.std.proofs.Math.Nat.{mod-mod, zero-div, div-eq_of_lt}
+use Rattle.std.proofs.Math.Pow.{pow-lt}
 use Rattle.std.specs.Int.Bits.{bit_xor, xor_zero_l, xor_zero_r, xor_lt, shifted_half, shifted_even}
 use Rattle.std.proofs.lemmas.Nat.{xor_mod, xor_shr}
-use Rattle.std.proofs.Math.Pow.{pow_pos, pow-lt}
 use Rattle.binary.specs.Binary.{shifted, product, times}
 use Rattle.binary.specs.Linear.{Linear, bit, last_bit, bit_le, zero_of, sum_linear, linear_bit, bit_times, times_bit, doubled, agree}
 
@@ -29,23 +27,22 @@ module _ (w poly : ℕ) where
   product_left zero b x y = refl
   product_left (suc n) b x y =
       sum_linear (λ a. b % 2 * a) (λ a. product w poly n (shifted w poly a) (b / 2)) (times_bit (b % 2) (last_bit b))
-      (λ u v. ap (λ a. product w poly n a (b / 2)) (shifted_linear u v) ∙ product_left n (b / 2) (shifted w poly u) (shifted w poly v)) x y
+      (λ u v. cc (shifted_linear u v, product_left n (b / 2) (shifted w poly u) (shifted w poly v))) x y
 
   product_right : (n a : ℕ) → Linear (product w poly n a)
   unfolding product
   product_right zero a x y = refl
   product_right (suc n) a x y =
       sum_linear (λ b. b % 2 * a) (λ b. product w poly n (shifted w poly a) (b / 2)) (bit_times a)
-      (λ u v. ap (product w poly n (shifted w poly a)) (xor_shr u v 1) ∙ product_right n (shifted w poly a) (u / 2) (v / 2)) x y
+      (λ u v. cc (xor_shr u v 1, product_right n (shifted w poly a) (u / 2) (v / 2))) x y
 
   -- a times x, times b, is a times b, times x
   product_shifted : (n a b : ℕ) → product w poly n (shifted w poly a) b ≡ shifted w poly (product w poly n a b)
   unfolding product
   product_shifted zero a b = sym (zero_of (shifted w poly) shifted_linear)
   product_shifted (suc n) a b =
-      ap (λ u. bit_xor (b % 2 * shifted w poly a) u) (product_shifted n (shifted w poly a) (b / 2))
-      ∙ ap (λ u. bit_xor u (shifted w poly (product w poly n (shifted w poly a) (b / 2)))) (sym (linear_bit (shifted w poly) shifted_linear a (b % 2) (last_bit b)))
-      ∙ sym (shifted_linear (b % 2 * a) (product w poly n (shifted w poly a) (b / 2)))
+      let rest = product w poly n (shifted w poly a) (b / 2) in
+      cc (product_shifted n (shifted w poly a) (b / 2), linear_bit (shifted w poly) shifted_linear a (b % 2) (last_bit b), shifted_linear (b % 2 * a) rest)
 
   -- the product with 2^j
   product_power : (j n a : ℕ) → j < n → product w poly n a (2 ^ j) ≡ moved j a
@@ -56,11 +53,8 @@ module _ (w poly : ℕ) where
   product_power (suc j) (suc n) a h =
       let even : 2 ^ suc j % 2 ≡ 0 = subst (λ (x : ℕ). x % 2 ≡ 0) (one-mul (2 ^ suc j)) (shifted_even 1 j) in
       let half : 2 ^ suc j / 2 ≡ 2 ^ j = subst (λ (x : ℕ). x / 2 ≡ 2 ^ j) (one-mul (2 ^ suc j)) (shifted_half 1 j ∙ one-mul (2 ^ j)) in
-      ap (λ u. bit_xor (u * a) (product w poly n (shifted w poly a) (2 ^ suc j / 2))) even
-      ∙ ap (λ u. bit_xor u (product w poly n (shifted w poly a) (2 ^ suc j / 2))) (zero-mul a)
-      ∙ xor_zero_l _
-      ∙ ap (product w poly n (shifted w poly a)) half
-      ∙ product_power j n (shifted w poly a) (le_of_suc-le-suc h)
+      let rest = product w poly n (shifted w poly a) (2 ^ suc j / 2) in
+      cc (even, zero-mul a, xor_zero_l rest, half, product_power j n (shifted w poly a) (le_of_suc-le-suc h))
 
   moved_shifted : (j a : ℕ) → moved j (shifted w poly a) ≡ shifted w poly (moved j a)
   unfolding moved
@@ -78,8 +72,8 @@ module _ (w poly : ℕ) where
   power_moved zero h = refl
   power_moved (suc i) h =
       let up : 2 ^ i * 2 / q ≡ 0 = ap (λ u. u / q) (sym (pow-suc 2 i)) ∙ div-eq_of_lt (pow-lt h) in
-      let is : shifted w poly (2 ^ i) ≡ 2 ^ suc i = ap (λ u. bit_xor (2 ^ i * 2) (u % 2 * poly)) up ∙ ap (bit_xor (2 ^ i * 2)) (zero-mul poly) ∙ xor_zero_r (2 ^ i * 2) ∙ sym (pow-suc 2 i) in
-      sym is ∙ ap (shifted w poly) (power_moved i (omega arith)) ∙ sym (moved_shifted i 1)
+      let is : shifted w poly (2 ^ i) ≡ 2 ^ suc i = ap (λ u. bit_xor (2 ^ i * 2) (u % 2 * poly)) up ∙ cc (zero-mul poly, xor_zero_r (2 ^ i * 2), pow-suc 2 i) in
+      cc (power_moved i (omega arith), moved_shifted i 1)
 
   abbrev t : ℕ → ℕ → ℕ
   t = times w poly
@@ -116,11 +110,9 @@ module _ (w poly : ℕ) where
 
   powers_comm : (i j : ℕ) → i < w → j < w → t (2 ^ i) (2 ^ j) ≡ t (2 ^ j) (2 ^ i)
   powers_comm i j h k =
-      times_power (2 ^ i) j k
-      ∙ ap (moved j) (mod-eq_of_lt (pow-lt h) ∙ power_moved i h)
-      ∙ moved_moved j i 1
-      ∙ sym (ap (moved i) (mod-eq_of_lt (pow-lt k) ∙ power_moved j k))
-      ∙ sym (times_power (2 ^ j) i h)
+      let low : 2 ^ i % q ≡ moved i 1 = mod-eq_of_lt (pow-lt h) ∙ power_moved i h in
+      let up : 2 ^ j % q ≡ moved j 1 = mod-eq_of_lt (pow-lt k) ∙ power_moved j k in
+      cc (times_power (2 ^ i) j k, moved_moved j i 1, times_power (2 ^ j) i h)
 
   pub comm : (a b : ℕ) → t a b ≡ t b a
   comm a b =
@@ -159,10 +151,8 @@ module _ (w poly : ℕ) where
 
     times_shifted : (a b : ℕ) → b < q → t a (shifted w poly b) ≡ shifted w poly (t a b)
     times_shifted a b h =
-        comm a (shifted w poly b)
-        ∙ ap (λ u. product w poly w u (a % q)) (mod-eq_of_lt (shifted_code b h) ∙ ap (shifted w poly) (sym (mod-eq_of_lt h)))
-        ∙ product_shifted w (b % q) (a % q)
-        ∙ ap (shifted w poly) (comm b a)
+        let reduced : shifted w poly b % q ≡ shifted w poly (b % q) = mod-eq_of_lt (shifted_code b h) ∙ ap (shifted w poly) (sym (mod-eq_of_lt h)) in
+        cc (comm a (shifted w poly b), product_shifted w (b % q) (a % q), comm b a)
 
     times_moved : (j a b : ℕ) → b < q → t a (moved j b) ≡ moved j (t a b)
     unfolding moved
@@ -171,10 +161,8 @@ module _ (w poly : ℕ) where
 
     assoc_power : (a b j : ℕ) → j < w → t (t a b) (2 ^ j) ≡ t a (t b (2 ^ j))
     assoc_power a b j h =
-        times_power (t a b) j h
-        ∙ ap (moved j) (mod-eq_of_lt (times_code a b) ∙ sym (times_reduce a b))
-        ∙ sym (times_moved j a (b % q) (code b))
-        ∙ ap (t a) (sym (times_power b j h))
+        let reduced : t a b % q ≡ t a b = mod-eq_of_lt (times_code a b) in
+        cc (times_power (t a b) j h, times_reduce a b, times_moved j a (b % q) (code b), times_power b j h)
 
     pub assoc : (a b c : ℕ) → t (t a b) c ≡ t a (t b c)
     assoc a b c =

@@ -1,8 +1,6 @@
 -- What the laws of a field give.
-use mathlib.Core.Path.{◌≡◌, sym, ap, ◌∙◌}
-use Prim.Native.Nat.{ℕ, zero, suc, ◌+◌, ◌*◌, ◌/◌, ◌%◌, ◌<◌}
-use native.Mathlib.Nat.{add-suc, add-zero, mul-suc, mul-zero, mod-eq_of_lt, mod-mod, zero-mod}
-use native.Mathlib.Omega.{arith}
+use Rattle.std.proofs.Common.{◌≡◌, sym, ap, ◌∙◌, ℕ, zero, suc, ◌+◌, ◌*◌, ◌/◌, ◌%◌, ◌<◌, add-suc, add-zero, mul-suc, mul-zero, mod-eq_of_lt, arith}
+use Rattle.std.proofs.Math.Nat.{mod-mod, zero-mod}
 use Rattle.field.specs.Field.{Ops, Laws, Modular, power}
 use Rattle.field.specs.Sums.{total}
 
@@ -13,6 +11,13 @@ module _ {f : Ops} (l : Laws f) where
   pub one_code : 1 < f.size
   one_code = omega (arith, l.size_least)
 
+  -- a code with nothing added, and a code once
+  pub plus_zero_code : (a : ℕ) → a < f.size → f.plus a 0 ≡ a
+  plus_zero_code a h = l.plus_zero a ∙ code_mod a h
+
+  pub times_one_code : (a : ℕ) → a < f.size → f.times a 1 ≡ a
+  times_one_code a h = l.times_one a ∙ code_mod a h
+
   pub zero_plus : (a : ℕ) → f.plus 0 a ≡ a % f.size
   zero_plus a = l.plus_comm 0 a ∙ l.plus_zero a
 
@@ -20,13 +25,13 @@ module _ {f : Ops} (l : Laws f) where
   one_times a = l.times_comm 1 a ∙ l.times_one a
 
   pub plus_mod_right : (a b : ℕ) → f.plus a (b % f.size) ≡ f.plus a b
-  plus_mod_right a b = ap (f.plus a) (sym (l.plus_zero b)) ∙ sym (l.plus_assoc a b 0) ∙ l.plus_zero (f.plus a b) ∙ code_mod _ (l.plus_code a b)
+  plus_mod_right a b = ap (f.plus a) (sym (l.plus_zero b)) ∙ sym (l.plus_assoc a b 0) ∙ plus_zero_code _ (l.plus_code a b)
 
   pub plus_mod_left : (a b : ℕ) → f.plus (a % f.size) b ≡ f.plus a b
   plus_mod_left a b = l.plus_comm (a % f.size) b ∙ plus_mod_right b a ∙ l.plus_comm b a
 
   pub times_mod_right : (a b : ℕ) → f.times a (b % f.size) ≡ f.times a b
-  times_mod_right a b = ap (f.times a) (sym (l.times_one b)) ∙ sym (l.times_assoc a b 1) ∙ l.times_one (f.times a b) ∙ code_mod _ (l.times_code a b)
+  times_mod_right a b = ap (f.times a) (sym (l.times_one b)) ∙ sym (l.times_assoc a b 1) ∙ times_one_code _ (l.times_code a b)
 
   pub times_mod_left : (a b : ℕ) → f.times (a % f.size) b ≡ f.times a b
   times_mod_left a b = l.times_comm (a % f.size) b ∙ times_mod_right b a ∙ l.times_comm b a
@@ -36,7 +41,7 @@ module _ {f : Ops} (l : Laws f) where
   plus_cancel a b c e =
       let z : f.plus c (f.minus 0 c) ≡ 0 = l.plus_comm c (f.minus 0 c) ∙ l.minus_plus 0 c ∙ zero-mod f.size in
       let back : (x : ℕ) → f.plus (f.plus x c) (f.minus 0 c) ≡ x % f.size = λ x. l.plus_assoc x c (f.minus 0 c) ∙ ap (f.plus x) z ∙ l.plus_zero x in
-      sym (back a) ∙ ap (λ x. f.plus x (f.minus 0 c)) e ∙ back b
+      cc (back a, back b)
 
   -- the difference is the one code that, added to b, gives a
   pub minus_unique : (a b c : ℕ) → c < f.size → f.plus c b ≡ a % f.size → c ≡ f.minus a b
@@ -67,26 +72,26 @@ module _ {f : Ops} (l : Laws f) where
   times_cancel a b c h e =
       let u = f.inverse a in
       let back : (x : ℕ) → f.times u (f.times a x) ≡ x % f.size = λ x. sym (l.times_assoc u a x) ∙ ap (λ y. f.times y x) (l.times_comm u a ∙ l.times_inverse a h) ∙ one_times x in
-      sym (back b) ∙ ap (f.times u) e ∙ back c
+      cc (back b, back c)
 
   pub power_code : (a n : ℕ) → power f a n < f.size
   power_code a zero = one_code
   power_code a (suc n) = l.times_code (power f a n) a
 
   pub power_add : (a m n : ℕ) → power f a (m + n) ≡ f.times (power f a m) (power f a n)
-  power_add a m zero = rw add-zero (sym (l.times_one (power f a m) ∙ code_mod _ (power_code a m)))
+  power_add a m zero = rw add-zero (sym (times_one_code _ (power_code a m)))
   power_add a m (suc n) =
       rw add-suc (ap (λ x. f.times x a) (power_add a m n) ∙ l.times_assoc (power f a m) (power f a n) a)
 
   pub power_mul : (a m n : ℕ) → power f a (m * n) ≡ power f (power f a m) n
   power_mul a m zero = ap (power f a) (mul-zero m)
-  power_mul a m (suc n) = ap (power f a) (mul-suc m n) ∙ power_add a (m * n) m ∙ ap (λ x. f.times x (power f a m)) (power_mul a m n)
+  power_mul a m (suc n) = cc (mul-suc m n, power_add a (m * n) m, power_mul a m n)
 
   -- squaring the base halves the exponent
   pub power_square : (a n : ℕ) → power f (f.times a a) n ≡ power f a (2 * n)
   power_square a n =
       let e : power f a 2 ≡ f.times a a = ap (λ x. f.times x a) (one_times a) ∙ times_mod_left a a in
-      ap (λ x. power f x n) (sym e) ∙ sym (power_mul a 2 n)
+      cc (power_mul a 2 n)
 
   pub power_nonzero : (a n : ℕ) → (a % f.size ≡ 0 → ⊥) → power f a n ≡ 0 → ⊥
   power_nonzero a zero h e = let k : ◌≡◌ {A = ℕ} 1 0 = e in omega arith
@@ -105,11 +110,10 @@ module _ {f : Ops} (l : Laws f) where
   square_odd p b n e =
       let h = n / 2 in
       let is : n ≡ suc (2 * h) = omega arith in
-      ap (f.times (f.times p b)) (power_square b h)
-      ∙ l.times_assoc p b (power f b (2 * h))
-      ∙ ap (f.times p) (l.times_comm b (power f b (2 * h)) ∙ ap (power f b) (sym is))
+      let last : power f b n ≡ f.times (power f b (2 * h)) b = ap (power f b) is in
+      cc (power_square b h, l.times_assoc p b (power f b (2 * h)), l.times_comm b (power f b (2 * h)))
 
   pub square_even : (p b n : ℕ) → (n % 2 ≡ 1 → ⊥) → f.times p (power f (f.times b b) (n / 2)) ≡ f.times p (power f b n)
   square_even p b n e =
       let is : n ≡ 2 * (n / 2) = omega arith in
-      ap (f.times p) (power_square b (n / 2) ∙ ap (power f b) (sym is))
+      cc (power_square b (n / 2))

@@ -1,13 +1,8 @@
 -- The powers of alpha are different, from one computed walk: 1 does not come again before the last place.
-use mathlib.Core.Path.{◌≡◌, sym, ap, subst, ◌∙◌}
-use mathlib.Core.Bool.{Bool, true, false}
-use mathlib.Core.Logic.{◌⊎◌, inl, inr, ⊎_elim}
-use Prim.Native.Nat.{ℕ, zero, suc, ◌+◌, ◌-◌, ◌%◌, ◌<◌, ◌≤◌}
-use native.Mathlib.Nat.{add-suc, add-zero, suc-add, not-suc-le-zero, le_of_suc-le-suc, eq-or-lt_of_le}
-use native.Mathlib.Omega.{arith}
-use lib.Dec.{T, eqb}
+use Rattle.std.proofs.Common.{◌≡◌, sym, ap, subst, ◌∙◌, Bool, true, false, ⊎_elim, ℕ, zero, suc, ◌+◌, ◌-◌, ◌%◌, ◌<◌, ◌≤◌, add-suc, add-zero, suc-add, not-suc-le-zero, le_of_suc-le-suc, arith, T, eqb}
+use Rattle.std.proofs.lemmas.Bool.{cases_order}
 use Rattle.field.specs.Field.{Ops, Laws, Spread, power}
-use Rattle.field.proofs.Laws.{one_code, code_mod, power_code, power_add, power_nonzero, times_cancel}
+use Rattle.field.proofs.Laws.{one_code, code_mod, times_one_code, power_code, power_add, power_nonzero, times_cancel}
 
 abbrev pub unless : Bool → Bool → Bool
 unless true b = false
@@ -26,11 +21,6 @@ abbrev pub away : Ops → ℕ → ℕ → Bool
 away f x zero = true
 away f x (suc n) = unless (eqb x 1) (away f (f.times x f.alpha) n)
 
-either : (i j : ℕ) → (i ≤ j) ⊎ (j ≤ i)
-either zero j = inl (omega arith)
-either (suc i) zero = inr (omega arith)
-either (suc i) (suc j) = ⊎_elim (λ h. inl (omega arith)) (λ h. inr (omega arith)) (either i j)
-
 module _ {f : Ops} (l : Laws f) where
   away_at : (n m k : ℕ) → T (away f (power f f.alpha (suc m)) n) → k < n → power f f.alpha (suc m + k) ≡ 1 → ⊥
   away_at zero m k t h e = absurd (not-suc-le-zero h)
@@ -45,7 +35,7 @@ module _ {f : Ops} (l : Laws f) where
         let a = f.alpha in
         let p = power f a i in
         let nz : p % f.size ≡ 0 → ⊥ = λ z. power_nonzero l a i nonzero (sym (code_mod l p (power_code l a i)) ∙ z) in
-        let one : f.times p 1 ≡ f.times p (power f a (suc d)) = l.times_one p ∙ code_mod l p (power_code l a i) ∙ e ∙ power_add l a i (suc d) in
+        let one : f.times p 1 ≡ f.times p (power f a (suc d)) = times_one_code l p (power_code l a i) ∙ e ∙ power_add l a i (suc d) in
         let back : 1 % f.size ≡ power f a (suc d) % f.size = times_cancel l p 1 (power f a (suc d)) nz one in
         let is : power f a (suc d) ≡ 1 = sym (code_mod l _ (power_code l a (suc d))) ∙ sym back ∙ code_mod l 1 (one_code l) in
         away_at n 0 d walk h (ap (power f a) (let q : suc 0 + d ≡ suc d = omega arith in q) ∙ is)
@@ -57,12 +47,9 @@ module _ {f : Ops} (l : Laws f) where
         let short : d < n = omega (arith, last) in
         never_again i d short (e ∙ ap (power f f.alpha) is)
 
-    apart : (i j : ℕ) → 1 ≤ i → i ≤ f.places → 1 ≤ j → j ≤ f.places → power f f.alpha i ≡ power f f.alpha j → (i ≤ j) ⊎ (j ≤ i) → i ≡ j
-    apart i j i1 ip j1 jp e (inl h) = ⊎_elim (λ q. q) (λ h2. absurd (less i j i1 jp h2 e)) (eq-or-lt_of_le h)
-    apart i j i1 ip j1 jp e (inr h) = ⊎_elim sym (λ h2. absurd (less j i j1 ip h2 (sym e))) (eq-or-lt_of_le h)
-
     pub spread : Spread f
     spread = record {
-      apart = λ i j i1 ip j1 jp e. apart i j i1 ip j1 jp e (either i j);
+      apart = λ i j i1 ip j1 jp e.
+          ⊎_elim (λ same. same) (⊎_elim (λ h. absurd (less i j i1 jp h e)) (λ h. absurd (less j i j1 ip h (sym e)))) (cases_order i j);
       nonzero = λ i i1 ip e. power_nonzero l f.alpha i nonzero e;
     }

@@ -1,10 +1,10 @@
 -- 65,537 is prime, and each number that it does not divide has its inverse.
 use Rattle.std.specs.Prelude.{◌≡◌, refl, Bool, true, false, cond, ℕ, zero, suc, ◌+◌, ◌-◌, ◌*◌, ◌/◌, ◌%◌, ◌<◌, ◌≤◌, T, eqb, ltb}
-use Rattle.std.proofs.Common.{sym, ap, subst, ◌∙◌, ⊎_elim, mul_comm, mul_assoc, mul-add, mul-one, mod-lt, mod-eq_of_lt, not-suc-le-zero, eq-zero-or-pos, eq-or-lt_of_le, div-le_self, le_refl, arith, lit<, ltb-true, ltb-false, le-ltb}
+use Rattle.std.proofs.Common.{sym, ap, subst, ◌∙◌, ⊎_elim, mul_comm, mul_assoc, mul_left_comm, pos_of_ne-zero, mul-add, mod-lt, not-suc-le-zero, eq-zero-or-pos, eq-or-lt_of_le, div-le_self, le_refl, arith, lit<, ltb-true, ltb-false, le-ltb}
 use Rattle.std.proofs.Math.Nat.{div-add-mod, mul-add-mod_self_left}
+use Rattle.std.proofs.lemmas.Nat.{mul-mod_first, mul-mod_second}
 use Rattle.field.proofs.Walk.{unless, unless_left, unless_right}
 use Rattle.prime.specs.Prime.{inverse_in}
-use Rattle.prime.specs.Modulo.{mod_mul, mul_mod}
 
 -- 65537 has no divisor among 2 .. n + 1
 abbrev sieve : ℕ → Bool
@@ -29,12 +29,9 @@ turn x q r v h hq e ih =
     let t = 65537 - q in
     let whole : x * (t + q) ≡ x * 65537 = ap (λ y. x * y) (let z : t + q ≡ 65537 = omega arith in z) in
     let xt : x * t ≡ 65537 * (x - 1) + r = omega (arith, whole, mul-add x t q) in
-    let swap : x * (v * t) ≡ v * (x * t) = sym (mul_assoc x v t) ∙ ap (λ y. y * t) (mul_comm x v) ∙ mul_assoc v x t in
-    let all : v * (x * t) ≡ 65537 * (v * (x - 1)) + r * v =
-    ap (λ y. v * y) xt ∙ mul-add v (65537 * (x - 1)) r
-    ∙ ap (λ y. y + v * r) (sym (mul_assoc v 65537 (x - 1)) ∙ ap (λ y. y * (x - 1)) (mul_comm v 65537) ∙ mul_assoc 65537 v (x - 1))
-    ∙ ap (λ y. 65537 * (v * (x - 1)) + y) (mul_comm v r) in
-    mul_mod x (v * t) 65537 ∙ ap (λ y. y % 65537) (swap ∙ all) ∙ mul-add-mod_self_left 65537 (v * (x - 1)) (r * v) ∙ ih
+    let all : x * (v * t) ≡ 65537 * (v * (x - 1)) + r * v =
+    cc (mul_left_comm x v t, mul-add v (65537 * (x - 1)) r, mul_left_comm v 65537 (x - 1), mul_comm v r) in
+    cc (mul-mod_second x (v * t) 65537, mul-add-mod_self_left 65537 (v * (x - 1)) (r * v))
 
 inverse_step : (n x : ℕ) → 0 < x → x < 65537 → x ≤ suc n → ((y : ℕ) → 0 < y → y < 65537 → y ≤ n → y * inverse_in n y % 65537 ≡ 1)
     → (b : Bool) → ltb x 2 ≡ b → x * cond b x (inverse_in n (65537 % x) * (65537 - 65537 / x) % 65537) % 65537 ≡ 1
@@ -43,7 +40,7 @@ inverse_step n x h0 hp hn ih true e =
     ap (λ y. y * y % 65537) is
 inverse_step n x h0 hp hn ih false e =
     let h2 : 2 ≤ x = ltb-false x 2 e in
-    let pos : 0 < 65537 % x = ⊎_elim (λ z. absurd (no_divisor x h2 hp z)) (λ z. z) (eq-zero-or-pos (65537 % x)) in
+    let pos : 0 < 65537 % x = pos_of_ne-zero (no_divisor x h2 hp) in
     let below : 65537 % x < x = mod-lt 65537 h0 in
     let d = div-add-mod 65537 x in
     let hq : 65537 / x ≤ 65537 = div-le_self 65537 x in
@@ -88,19 +85,9 @@ one_step x m h e =
     ap (λ n. inverse_in n x) e ∙ opened m x h
     ∙ ap (λ y. y * (65537 - 65537 / x) % 65537) (more m (65537 % x) (65537 % x) (omega arith) (le_refl _))
 
--- one turn of the program's loop, its end and its start
+-- one turn of the program's loop
 pub inverse_turn : (s x : ℕ) → 1 < x → (s * (65537 - 65537 / x) % 65537) * inverse_in (65537 % x) (65537 % x) % 65537 ≡ s * inverse_in x x % 65537
 inverse_turn s x h =
     let t = 65537 - 65537 / x in
     let v = inverse_in (65537 % x) (65537 % x) in
-    let m = x - 1 in
-    let is : x ≡ suc m = omega arith in
-    mod_mul (s * t) v 65537 ∙ ap (λ y. y % 65537) (mul_assoc s t v ∙ ap (λ y. s * y) (mul_comm t v)) ∙ sym (mul_mod s (v * t) 65537)
-    ∙ ap (λ y. s * y % 65537) (sym (one_step x m h is))
-
-pub inverse_last : (s x : ℕ) → x ≤ 1 → s * inverse_in x x ≡ x * s
-inverse_last s zero h = mul_comm s 0
-inverse_last s (suc x) h = let z : x ≡ 0 = omega arith in ap (λ y. s * inverse_in (suc y) (suc y)) z ∙ mul_comm s 1 ∙ ap (λ y. suc y * s) (sym z)
-
-pub inverse_first : (a : ℕ) → 1 * inverse_in (a % 65537) (a % 65537) % 65537 ≡ inverse_in (a % 65537) (a % 65537)
-inverse_first a = ap (λ y. y % 65537) (mul_comm 1 _ ∙ mul-one _) ∙ mod-eq_of_lt (inverse_below _ _ (mod-lt a (lit< tt)))
+    cc (mul-mod_first (s * t) v 65537, mul_assoc s t v, mul_comm t v, mul-mod_second s (v * t) 65537, one_step x (x - 1) h (omega arith))

@@ -18,7 +18,6 @@ mod serving;
 
 #[cfg(test)]
 mod tests {
-    use crate::jobs::Case;
     use crate::powers::PUBLISHED;
     use crate::{arithmetic, cards_written, differences, jobs, replies, serving};
     use binary::{Small, Wide};
@@ -28,6 +27,7 @@ mod tests {
     use refusal::Refusal;
     use solve::Entry;
     use station::{Card, Shelf, Station};
+    use std::iter::repeat;
     use std::process::Abort;
     use std::test::Fail;
 
@@ -41,13 +41,23 @@ mod tests {
         }
     }
 
-    fn check_job<F: Field>(rt: &impl Abort, case: &Case) {
+    fn check_jobs<F: Field>(rt: &impl Abort, cases: &[jobs::Case]) {
+        for case in cases {
+            check_row::<F>(rt, case);
+            check_sums::<F>(rt, case);
+        }
+    }
+
+    fn check_row<F: Field>(rt: &impl Abort, case: &jobs::Case) {
         for (before, signature) in case.row.iter().enumerate() {
             assert_eq!(rt;
                 page::page_signature::<F>(case.job, case.length, before + 1),
                 *signature
             );
         }
+    }
+
+    fn check_sums<F: Field>(rt: &impl Abort, case: &jobs::Case) {
         for (before, sum) in case.sums.iter().enumerate() {
             assert_eq!(rt; page::row_sum::<F>(case.row, before + 1), *sum);
         }
@@ -70,23 +80,17 @@ mod tests {
 
     #[test]
     fn jobs_in_small(rt: HostRuntime) {
-        for case in &jobs::SMALL {
-            check_job::<Small>(&rt, case);
-        }
+        check_jobs::<Small>(&rt, &jobs::SMALL);
     }
 
     #[test]
     fn jobs_in_wide(rt: HostRuntime) {
-        for case in &jobs::WIDE {
-            check_job::<Wide>(&rt, case);
-        }
+        check_jobs::<Wide>(&rt, &jobs::WIDE);
     }
 
     #[test]
     fn jobs_in_prime(rt: HostRuntime) {
-        for case in &jobs::PRIME {
-            check_job::<Prime>(&rt, case);
-        }
+        check_jobs::<Prime>(&rt, &jobs::PRIME);
     }
 
     // By the table, by squaring and one step at a time.
@@ -108,20 +112,14 @@ mod tests {
         for case in &cards_written::CASES {
             let job = vec![in heap; 1u8; case.bytes]?;
             let text = cards::card_in(heap, case.field, case.length, job.as_slice())?;
-            assert!(rt; text.as_slice() == case.text);
+            assert_eq!(rt; text.as_slice(), case.text);
         }
         Ok(())
     }
 
-    fn check_refusal(
-        rt: &impl Abort,
-        refusal: Refusal,
-        number: u32,
-        place: usize,
-    ) -> Result<(), Fail> {
-        assert_eq!(rt; refusal.number(), number);
-        assert_eq!(rt; refusal.place(), place);
-        Ok(())
+    // A refusal as it is told: its number and its place.
+    fn told(refusal: Refusal) -> (u32, usize) {
+        (refusal.number(), refusal.place())
     }
 
     fn check_served<S: Station<Prime>>(
@@ -129,23 +127,19 @@ mod tests {
         station: &S,
         case: &serving::Case,
         reply: &mut [u32],
-    ) -> Result<(), Fail> {
-        match station::serve::<Prime, S>(station, 4, case.request, reply) {
-            Ok(count) => {
-                assert_eq!(rt; count, case.count);
-                assert!(rt;
-                    count == 4 + case.values.len()
-                        && case.request.len() == 4
-                        && count <= reply.len()
-                );
-                assert!(rt; reply[0..4] == case.request[..]);
-                assert!(rt; reply[4..count] == case.values[..]);
-                Ok(())
-            }
-            Err(refusal) => {
-                assert!(rt; reply.iter().copied().max().unwrap_or(7) == 7);
-                check_refusal(rt, refusal, case.number, case.place)
-            }
+    ) {
+        let served = station::serve::<Prime, S>(station, 4, case.request, reply);
+        assert_eq!(rt;
+            served.map_err(told),
+            case.served.map(|values| 4 + values.len())
+        );
+        if let Ok(values) = case.served {
+            let rest = reply
+                .strip_prefix(case.request)
+                .expect(rt, "the request's words");
+            assert!(rt; rest.starts_with(values));
+        } else {
+            assert!(rt; reply.iter().all(|word| *word == 7));
         }
     }
 
@@ -156,119 +150,87 @@ mod tests {
         let shelf: Shelf<Prime> = Shelf::new(&[3, 0, 5], 1)?;
         for case in &serving::CASES {
             let mut reply = vec![in rt.alloc(); 7u32; case.room]?;
-            check_served(&rt, &card, case, reply.as_mut_slice())?;
+            check_served(&rt, &card, case, reply.as_mut_slice());
             let mut reply = vec![in rt.alloc(); 7u32; case.room]?;
-            check_served(&rt, &shelf, case, reply.as_mut_slice())?;
+            check_served(&rt, &shelf, case, reply.as_mut_slice());
         }
         Ok(())
     }
 
     #[test]
-    fn reading_replies(rt: HostRuntime) -> Result<(), Fail> {
-        let Some(request) = Request::new(5, 4, Asked::Sums, 2, 3) else {
-            assert!(rt; false);
-            return Ok(());
-        };
+    fn reading_replies(rt: HostRuntime) {
+        let request = Request::new(5, 4, Asked::Sums, 2, 3).expect(&rt, "a request");
         assert_eq!(rt;
             request.words(),
             [0x10000005, 0x20000004, 0x30000002, 0x50000003]
         );
         for case in &replies::CASES {
-            match link::read_reply::<Prime>(&request, case.reply) {
-                Ok(values) => {
-                    assert_eq!(rt; case.number, 0);
-                    assert!(rt; case.reply.len() == 6 && values == &case.reply[4..6]);
-                }
-                Err(refusal) => check_refusal(&rt, refusal, case.number, case.place)?,
-            }
+            let read = link::read_reply::<Prime>(&request, case.reply);
+            assert_eq!(rt; read.map_err(told), case.read);
         }
-        Ok(())
     }
 
     const MARKED: Entry = Entry { page: 7, code: 7 };
 
-    fn check_solved<F: Field>(rt: &impl Abort, case: &differences::Case) -> Result<(), Fail> {
+    fn check_differences<F: Field>(rt: &impl Abort, cases: &[differences::Case]) {
+        for case in cases {
+            check_solved::<F>(rt, case);
+        }
+    }
+
+    fn check_solved<F: Field>(rt: &impl Abort, case: &differences::Case) {
         let mut list = [MARKED; 129];
-        match solve::solve::<F>(case.pages, case.values, case.weight, &mut list)? {
-            Some(count) => {
-                assert!(rt; case.solved);
-                assert_eq!(rt; count, case.solution.len());
-                check_listed(rt, &list, case.solution)
-            }
-            None => {
-                assert!(rt; !case.solved);
-                assert!(rt; list[0].page == 7 && list[128].code == 7);
-                Ok(())
-            }
+        let count = solve::solve::<F>(case.pages, case.values, case.weight, &mut list);
+        assert_eq!(rt; count, Ok(case.solution.map(|solution| solution.len())));
+        if let Some(solution) = case.solution {
+            check_listed(rt, &list, solution);
+        } else {
+            check_marked(rt, &list);
         }
     }
 
-    fn check_listed(
-        rt: &impl Abort,
-        list: &[Entry; 129],
-        solution: &[(usize, u32)],
-    ) -> Result<(), Fail> {
-        for (place, entry) in list.iter().enumerate() {
-            let (page, code) = solution.get(place).copied().unwrap_or((0, 0));
-            assert_eq!(rt; entry.page, page);
-            assert_eq!(rt; entry.code, code);
+    // The solution, and empty entries after it.
+    fn check_listed(rt: &impl Abort, list: &[Entry; 129], solution: &[(usize, u32)]) {
+        let listed = solution.iter().copied().chain(repeat((0, 0)));
+        for (entry, (page, code)) in list.iter().zip(listed) {
+            assert_eq!(rt; *entry, Entry { page, code });
         }
-        Ok(())
+    }
+
+    fn check_marked(rt: &impl Abort, list: &[Entry; 129]) {
+        assert!(rt; list.iter().all(|entry| *entry == MARKED));
     }
 
     #[test]
-    fn differences_in_small(rt: HostRuntime) -> Result<(), Fail> {
-        for case in &differences::SMALL {
-            check_solved::<Small>(&rt, case)?;
-        }
-        Ok(())
+    fn differences_in_small(rt: HostRuntime) {
+        check_differences::<Small>(&rt, &differences::SMALL);
     }
 
     #[test]
-    fn differences_in_wide(rt: HostRuntime) -> Result<(), Fail> {
-        for case in &differences::WIDE {
-            check_solved::<Wide>(&rt, case)?;
-        }
-        Ok(())
+    fn differences_in_wide(rt: HostRuntime) {
+        check_differences::<Wide>(&rt, &differences::WIDE);
     }
 
     #[test]
-    fn differences_in_prime(rt: HostRuntime) -> Result<(), Fail> {
-        for case in &differences::PRIME {
-            check_solved::<Prime>(&rt, case)?;
-        }
-        Ok(())
-    }
-
-    fn check_not_solved(
-        rt: &impl Abort,
-        pages: usize,
-        values: &[u32],
-        weight: usize,
-        number: u32,
-        place: usize,
-    ) -> Result<(), Fail> {
-        let mut list = [MARKED; 129];
-        match solve::solve::<Small>(pages, values, weight, &mut list) {
-            Ok(_) => {
-                assert!(rt; false);
-                Ok(())
-            },
-            Err(refusal) => {
-                assert!(rt; list[0].page == 7 && list[128].code == 7);
-                check_refusal(rt, refusal, number, place)
-            }
-        }
+    fn differences_in_prime(rt: HostRuntime) {
+        check_differences::<Prime>(&rt, &differences::PRIME);
     }
 
     #[test]
-    fn solving_refused(rt: HostRuntime) -> Result<(), Fail> {
-        let zeros = [0; 129];
-        check_not_solved(&rt, 0, &[], 0, 1, 3)?;
-        check_not_solved(&rt, 256, &[0, 0], 1, 1, 3)?;
-        check_not_solved(&rt, 5, &[0, 0, 0], 2, 1, 6)?;
-        check_not_solved(&rt, 129, &zeros, 1, 1, 6)?;
-        check_not_solved(&rt, 5, &[0, 256, 0, 300], 2, 8, 2)?;
-        check_not_solved(&rt, 0, &[256], 2, 1, 3)
+    fn solving_refused(rt: HostRuntime) {
+        let cases: [(usize, &[u32], usize, (u32, usize)); 6] = [
+            (0, &[], 0, (1, 3)),
+            (256, &[0, 0], 1, (1, 3)),
+            (5, &[0, 0, 0], 2, (1, 6)),
+            (129, &[0; 129], 1, (1, 6)),
+            (5, &[0, 256, 0, 300], 2, (8, 2)),
+            (0, &[256], 2, (1, 3)),
+        ];
+        for (pages, values, weight, refused) in cases {
+            let mut list = [MARKED; 129];
+            let solved = solve::solve::<Small>(pages, values, weight, &mut list);
+            assert_eq!(rt; solved.map_err(told), Err(refused));
+            check_marked(&rt, &list);
+        }
     }
 }

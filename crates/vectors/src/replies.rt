@@ -2,8 +2,8 @@
 
 pub struct Case {
     pub reply: &'static [u32],
-    pub number: u32,
-    pub place: usize,
+    // the values; or the refusal's number and place
+    pub read: Result<&'static [u32], (u32, usize)>,
 }
 
 pub static CASES: [Case; 11] = [
@@ -11,76 +11,65 @@ pub static CASES: [Case; 11] = [
         reply: &[
             0x10000005, 0x20000004, 0x30000002, 0x50000003, 0x60000000, 0x60010000,
         ],
-        number: 0,
-        place: 0,
+        read: Ok(&[0x60000000, 0x60010000]),
     },
     // garbled: a value of the field's size, a missing value, a surplus one, a wrong kind, nothing at all
     Case {
         reply: &[
             0x10000005, 0x20000004, 0x30000002, 0x50000003, 0x60000000, 0x60010001,
         ],
-        number: 8,
-        place: 6,
+        read: Err((8, 6)),
     },
     Case {
         reply: &[0x10000005, 0x20000004, 0x30000002, 0x50000003, 0x60000000],
-        number: 8,
-        place: 6,
+        read: Err((8, 6)),
     },
     Case {
         reply: &[
             0x10000005, 0x20000004, 0x30000002, 0x50000003, 0x60000000, 0x60000001, 0x60000002,
         ],
-        number: 8,
-        place: 7,
+        read: Err((8, 7)),
     },
     Case {
         reply: &[
             0x10000005, 0x20000004, 0x30000002, 0x40000003, 0x60000000, 0x60000001,
         ],
-        number: 8,
-        place: 4,
+        read: Err((8, 4)),
     },
     Case {
         reply: &[],
-        number: 8,
-        place: 1,
+        read: Err((8, 1)),
     },
     // garbled comes before foreign, wherever it stands
     Case {
         reply: &[
             0x10000006, 0x20000004, 0x30000002, 0x50000003, 0x60000000, 0x50000001,
         ],
-        number: 8,
-        place: 6,
+        read: Err((8, 6)),
     },
     // foreign: another check, another station, pages for sums, another last index
     Case {
         reply: &[
             0x10000006, 0x20000005, 0x30000002, 0x50000003, 0x60000000, 0x60000001,
         ],
-        number: 9,
-        place: 1,
+        read: Err((9, 1)),
     },
     Case {
         reply: &[
             0x10000005, 0x20000005, 0x30000002, 0x50000003, 0x60000000, 0x60000001,
         ],
-        number: 9,
-        place: 2,
+        read: Err((9, 2)),
     },
     Case {
         reply: &[
             0x10000005, 0x20000004, 0x40000002, 0x50000003, 0x60000000, 0x60000001,
         ],
-        number: 9,
-        place: 3,
+        read: Err((9, 3)),
     },
     Case {
         reply: &[
             0x10000005, 0x20000004, 0x30000002, 0x50000002, 0x60000000, 0x60000001,
         ],
-        number: 9,
-        place: 4,
+        read: Err((9, 4)),
     },
 ];

@@ -1,6 +1,5 @@
 -- The square so far, and the product of the squares before it.
-use mathlib.Core.Path.{◌≡◌}
-use Prim.Native.Nat.{◌-◌}
+use Rattle.std.proofs.Common.{◌≡◌, ◌-◌}
 use Rattle.binary.specs.Binary.{times, squared, chain}
 use Rattle.binary.proofs.product.invert.Given as goal
 

@@ -1,7 +1,5 @@
 -- The sum so far, plus the product that is left, is the product.
-use mathlib.Core.Path.{◌≡◌}
-use Prim.Native.Nat.{◌-◌, ◌^◌, ◌<◌}
-use lib.Bits.{bit_xor}
+use Rattle.std.proofs.Common.{◌≡◌, ◌-◌, ◌^◌, ◌<◌, bit_xor}
 use Rattle.binary.specs.Binary.{product, times}
 use Rattle.binary.proofs.product.multiply.Given as goal
 

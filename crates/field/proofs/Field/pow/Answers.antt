@@ -1,7 +1,4 @@
-use mathlib.Core.Path.{◌≡◌, sym, ap, subst, ◌∙◌}
-use Prim.Native.Nat.{ℕ, ◌<◌}
-use native.Mathlib.Omega.{arith}
-use Rattle.field.specs.Field.{power}
+use Rattle.std.proofs.Common.{◌∙◌, arith}
 use Rattle.field.proofs.Laws.{one_code, one_times, code_mod, power_code, square_odd, square_even}
 use Rattle.field.proofs.Field.pow.Goals as goal
 use Rattle.field.proofs.Field.pow.Goals.{then-left-eq1, else-left-eq1}
@@ -22,20 +19,10 @@ loop-left-preserved g c =
     elim c.if-left-eq1.branch [
       | then-left-eq1 w ↦ (
         (let turn = square_odd l p b n w.if-left-eq1.true in cc),
-        subst (λ (x : ℕ). x < f.size) (sym (w.product-is ∙ w.mul-product.ensures)) (l.times_code p b),
+        omega (arith, l.times_code p b),
       )
       | else-left-eq1 w ↦ (
         (let turn = square_even l p b n w.if-left-eq1.false in cc),
-        subst (λ (x : ℕ). x < f.size) (sym w.product-is) c.loop-left.invariant.1,
+        omega arith,
       )
     ]
-
-pub returns : goal.returns
-returns g c =
-    let f = g.Self.Field.ops in
-    let l = g.met.Self.Field.lawful in
-    let p = c.loop-left.product in
-    let done : c.loop-left.left ≡ 0 = omega arith in
-    sym (l.times_one p ∙ code_mod l p c.loop-left.invariant.1)
-    ∙ sym (ap (λ n. f.times p (power f c.loop-left.base n)) done)
-    ∙ c.loop-left.invariant.0

@@ -1,7 +1,6 @@
 use Rattle.std.proofs.Common.{◌≡◌, ℕ, ◌+◌, ◌-◌, ◌*◌, ◌≤◌}
 use Rattle.field.specs.Field.{power}
-use Rattle.field.specs.Sums.{power_sum}
-use Rattle.field.specs.Sums.{Tells}
+use Rattle.field.specs.Sums.{power_sum, Tells}
 use Rattle.page.proofs.sum.sum_of.Given as goal
 
 abbrev pub invariant-loop-page : goal.invariant-loop-page

@@ -1,5 +1,4 @@
-use mathlib.Core.Path.{◌≡◌}
-use Prim.Native.Nat.{◌*◌, ◌%◌, ◌<◌}
+use Rattle.std.proofs.Common.{◌≡◌, ◌*◌, ◌%◌, ◌<◌}
 use Rattle.prime.specs.Prime.{inverse_in}
 use Rattle.prime.proofs.PrimeField.inv.Given as goal
 

@@ -1,5 +1,5 @@
 -- The table passes its test, so each entry is its power of alpha.
-use borrow.Author.Rules.{rules}
+use Rattle.std.proofs.Common.{rules}
 use Rattle.binary.specs.Binary.{product}
 use Rattle.binary.proofs.Table.{table}
 use Rattle.binary.proofs.small.SmallModulusModulus.tabled_power.Goals as goal
