@@ -1,14 +1,14 @@
 -- How a judgement ends for another program: a number, with a page, a station or a place beside it.
-use Rattle.std.specs.Prelude.{◌≡◌, List, ◌⊎◌, length, ℕ}
+use Rattle.std.specs.Prelude.{◌≡◌, List, ◌⊎◌, length, ℕ, Result, Ok, Err}
 use Rattle.field.specs.Field.{Ops}
 use Rattle.fields.specs.declared.FieldName.{FieldName}
 use Rattle.fields.specs.Names.{ops_of, number_of}
 use Rattle.refusal.specs.declared.Refusal.{Refusal}
 use Rattle.refusal.specs.Numbers.{number, place}
 use Rattle.refusal.specs.Rules.{Accepted, Refused}
-use Rattle.four.specs.declared.outcome.Outcome.{Outcome}
-use Rattle.four.specs.declared.outcome.Outcome.TheVariants.{Over, Split, Filled, Asks}
-use Rattle.verdict.specs.Judging.{judging}
+use Rattle.tally.specs.declared.outcome.Outcome.{Outcome}
+use Rattle.tally.specs.declared.outcome.Outcome.TheVariants.{Over, Split, Filled, Asks}
+use Rattle.tally.specs.Judging.{judging}
 
 abbrev pub status_of : Outcome → ℕ
 status_of Filled = 0
@@ -22,6 +22,11 @@ told_place before Filled = before
 told_place before Over = before
 told_place before (Split n) = n
 told_place before (Asks k) = k
+
+-- how a judgement is told
+abbrev pub Told : Result Outcome Refusal → (before after status : ℕ) → Type 0
+Told (Ok outcome) before after status = (status ≡ status_of outcome) × (after ≡ told_place before outcome)
+Told (Err refusal) before after status = (status ≡ number refusal) × (after ≡ place refusal)
 
 -- what the caller lends: the tally and the place
 pub record Desk : Type 0 where

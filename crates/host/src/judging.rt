@@ -1,12 +1,11 @@
 // Weighing and settling a tally for programs in C and Rust.
-ghost use Rattle.std.specs.Prelude.{◌≡◌};
 ghost use Rattle.verdict.specs.Judging.{Weighed, Settled};
-ghost use Rattle.host.specs.Judging.{Judges, JudgesIn, status_of, told_place};
+ghost use Rattle.host.specs.Judging.{JudgesIn, Told};
 
 use binary::{Small, Wide};
-use field::Field;
 use fields::FieldName;
 use prime::Prime;
+use refusal::Refusal;
 use verdict::Outcome;
 
 // What is returned beside 0, the rows are filled; refusals have lower numbers.
@@ -34,31 +33,17 @@ pub extern "C" fn wulambey_weigh(
         (record { tally = tally.entry.now; place = place.old })
         (record { tally = tally.exit.now; place = place.new }) result }
 {
-    match FieldName::numbered(field) {
-        Some(FieldName::Small) => weigh_in::<Small>(stations, pages, bound, tally, place),
-        Some(FieldName::Wide) => weigh_in::<Wide>(stations, pages, bound, tally, place),
-        Some(FieldName::Prime) => weigh_in::<Prime>(stations, pages, bound, tally, place),
-        None => NO_FIELD,
-    }
-}
-
-fn weigh_in<F: Field>(
-    stations: usize,
-    pages: usize,
-    bound: usize,
-    tally: &mut [u32],
-    place: &mut usize,
-) -> u32
-    ensures { Judges Weighed F.Field.ops stations pages bound
-        (record { tally = tally.entry.now; place = place.old })
-        (record { tally = tally.exit.now; place = place.new }) result }
-{
-    match verdict::weigh::<F>(stations, pages, bound, tally) {
-        Ok(outcome) => tell(outcome, place),
-        Err(refusal) => {
-            *place = refusal.place();
-            refusal.number()
-        }
+    match FieldName::try_from(field) {
+        Ok(FieldName::Small) => tell(
+            verdict::weigh::<Small>(stations, pages, bound, tally),
+            place,
+        ),
+        Ok(FieldName::Wide) => tell(verdict::weigh::<Wide>(stations, pages, bound, tally), place),
+        Ok(FieldName::Prime) => tell(
+            verdict::weigh::<Prime>(stations, pages, bound, tally),
+            place,
+        ),
+        Err(_) => NO_FIELD,
     }
 }
 
@@ -76,47 +61,41 @@ pub extern "C" fn wulambey_settle(
         (record { tally = tally.entry.now; place = place.old })
         (record { tally = tally.exit.now; place = place.new }) result }
 {
-    match FieldName::numbered(field) {
-        Some(FieldName::Small) => settle_in::<Small>(stations, pages, bound, tally, place),
-        Some(FieldName::Wide) => settle_in::<Wide>(stations, pages, bound, tally, place),
-        Some(FieldName::Prime) => settle_in::<Prime>(stations, pages, bound, tally, place),
-        None => NO_FIELD,
+    match FieldName::try_from(field) {
+        Ok(FieldName::Small) => tell(
+            verdict::settle::<Small>(stations, pages, bound, tally),
+            place,
+        ),
+        Ok(FieldName::Wide) => tell(
+            verdict::settle::<Wide>(stations, pages, bound, tally),
+            place,
+        ),
+        Ok(FieldName::Prime) => tell(
+            verdict::settle::<Prime>(stations, pages, bound, tally),
+            place,
+        ),
+        Err(_) => NO_FIELD,
     }
 }
 
-fn settle_in<F: Field>(
-    stations: usize,
-    pages: usize,
-    bound: usize,
-    tally: &mut [u32],
-    place: &mut usize,
-) -> u32
-    ensures { Judges Settled F.Field.ops stations pages bound
-        (record { tally = tally.entry.now; place = place.old })
-        (record { tally = tally.exit.now; place = place.new }) result }
+// A judgement as a number, with a page, a station or the refusal's place beside it.
+fn tell(judged: Result<Outcome, Refusal>, place: &mut usize) -> u32
+    ensures { Told judged place.old place.new result }
 {
-    match verdict::settle::<F>(stations, pages, bound, tally) {
-        Ok(outcome) => tell(outcome, place),
-        Err(refusal) => {
-            *place = refusal.place();
-            refusal.number()
-        }
-    }
-}
-
-fn tell(outcome: Outcome, place: &mut usize) -> u32
-    ensures { (result ≡ status_of outcome) × (place.new ≡ told_place place.old outcome) }
-{
-    match outcome {
-        Outcome::Filled => 0,
-        Outcome::Over => OVER,
-        Outcome::Split(page) => {
+    match judged {
+        Ok(Outcome::Filled) => 0,
+        Ok(Outcome::Over) => OVER,
+        Ok(Outcome::Split(page)) => {
             *place = page;
             SPLIT
         }
-        Outcome::Asks(station) => {
+        Ok(Outcome::Asks(station)) => {
             *place = station;
             ASKS
+        }
+        Err(refusal) => {
+            *place = refusal.place();
+            refusal.number()
         }
     }
 }

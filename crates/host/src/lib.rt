@@ -26,11 +26,11 @@ pub extern "C" fn wulambey_page_signature(
 ) -> u32
     ensures { InField field result (λ f. page_signature f page_length job.now page) }
 {
-    match FieldName::numbered(field) {
-        Some(FieldName::Small) => page::page_signature::<Small>(job, page_length, page),
-        Some(FieldName::Wide) => page::page_signature::<Wide>(job, page_length, page),
-        Some(FieldName::Prime) => page::page_signature::<Prime>(job, page_length, page),
-        None => NO_FIELD,
+    match FieldName::try_from(field) {
+        Ok(FieldName::Small) => page::page_signature::<Small>(job, page_length, page),
+        Ok(FieldName::Wide) => page::page_signature::<Wide>(job, page_length, page),
+        Ok(FieldName::Prime) => page::page_signature::<Prime>(job, page_length, page),
+        Err(_) => NO_FIELD,
     }
 }
 
@@ -39,10 +39,10 @@ pub extern "C" fn wulambey_page_signature(
 pub extern "C" fn wulambey_row_sum(field: u32, row: &[u32], j: usize) -> u32
     ensures { InField field result (λ f. power_sum f (length row.now) (entry row.now) j) }
 {
-    match FieldName::numbered(field) {
-        Some(FieldName::Small) => page::row_sum::<Small>(row, j),
-        Some(FieldName::Wide) => page::row_sum::<Wide>(row, j),
-        Some(FieldName::Prime) => page::row_sum::<Prime>(row, j),
-        None => NO_FIELD,
+    match FieldName::try_from(field) {
+        Ok(FieldName::Small) => page::row_sum::<Small>(row, j),
+        Ok(FieldName::Wide) => page::row_sum::<Wide>(row, j),
+        Ok(FieldName::Prime) => page::row_sum::<Prime>(row, j),
+        Err(_) => NO_FIELD,
     }
 }

@@ -29,11 +29,11 @@ pub extern "C" fn wulambey_solve(
         (record { list = list.entry.now; count = count.old; place = place.old })
         (record { list = list.exit.now; count = count.new; place = place.new }) result }
 {
-    match FieldName::numbered(field) {
-        Some(FieldName::Small) => solve_in::<Small>(pages, values, weight, list, count, place),
-        Some(FieldName::Wide) => solve_in::<Wide>(pages, values, weight, list, count, place),
-        Some(FieldName::Prime) => solve_in::<Prime>(pages, values, weight, list, count, place),
-        None => NO_FIELD,
+    match FieldName::try_from(field) {
+        Ok(FieldName::Small) => solve_in::<Small>(pages, values, weight, list, count, place),
+        Ok(FieldName::Wide) => solve_in::<Wide>(pages, values, weight, list, count, place),
+        Ok(FieldName::Prime) => solve_in::<Prime>(pages, values, weight, list, count, place),
+        Err(_) => NO_FIELD,
     }
 }
 

@@ -1,6 +1,6 @@
 -- 65,537 is prime, and each number that it does not divide has its inverse.
 use Rattle.std.specs.Prelude.{◌≡◌, refl, Bool, true, false, cond, ℕ, zero, suc, ◌+◌, ◌-◌, ◌*◌, ◌/◌, ◌%◌, ◌<◌, ◌≤◌, T, eqb, ltb}
-use Rattle.std.proofs.Common.{sym, ap, subst, ◌∙◌, ⊎_elim, mul_comm, mul_assoc, mul_left_comm, pos_of_ne-zero, mul-add, mod-lt, not-suc-le-zero, eq-zero-or-pos, eq-or-lt_of_le, div-le_self, le_refl, arith, lit<, ltb-true, ltb-false, le-ltb}
+use Rattle.std.proofs.Common.{sym, ap, subst, ◌∙◌, ⊎_elim, mul_comm, mul_assoc, mul_left_comm, pos_of_ne-zero, mul-add, mul-one, mod-lt, mod-eq_of_lt, not-suc-le-zero, eq-zero-or-pos, eq-or-lt_of_le, div-le_self, le_refl, arith, lit<, ltb-true, ltb-false, le-ltb}
 use Rattle.std.proofs.Math.Nat.{div-add-mod, mul-add-mod_self_left}
 use Rattle.std.proofs.lemmas.Nat.{mul-mod_first, mul-mod_second}
 use Rattle.field.proofs.Walk.{unless, unless_left, unless_right}
@@ -85,9 +85,16 @@ one_step x m h e =
     ap (λ n. inverse_in n x) e ∙ opened m x h
     ∙ ap (λ y. y * (65537 - 65537 / x) % 65537) (more m (65537 % x) (65537 % x) (omega arith) (le_refl _))
 
--- one turn of the program's loop
+-- one turn of the program's loop, its end and its start
 pub inverse_turn : (s x : ℕ) → 1 < x → (s * (65537 - 65537 / x) % 65537) * inverse_in (65537 % x) (65537 % x) % 65537 ≡ s * inverse_in x x % 65537
 inverse_turn s x h =
     let t = 65537 - 65537 / x in
     let v = inverse_in (65537 % x) (65537 % x) in
     cc (mul-mod_first (s * t) v 65537, mul_assoc s t v, mul_comm t v, mul-mod_second s (v * t) 65537, one_step x (x - 1) h (omega arith))
+
+pub inverse_last : (s x : ℕ) → x ≤ 1 → s * inverse_in x x ≡ x * s
+inverse_last s zero h = mul_comm s 0
+inverse_last s (suc x) h = let z : x ≡ 0 = omega arith in ap (λ y. s * inverse_in (suc y) (suc y)) z ∙ mul_comm s 1 ∙ ap (λ y. suc y * s) (sym z)
+
+pub inverse_first : (a : ℕ) → 1 * inverse_in (a % 65537) (a % 65537) % 65537 ≡ inverse_in (a % 65537) (a % 65537)
+inverse_first a = ap (λ y. y % 65537) (mul_comm 1 _ ∙ mul-one _) ∙ mod-eq_of_lt (inverse_below _ _ (mod-lt a (lit< tt)))
