@@ -1,6 +1,8 @@
 // Tests of the verdict: small farms, judged from their sums.
 #![tactic(auto)]
 
+ghost use Rattle.std.specs.Prelude.{◌<◌};
+
 #[cfg(test)]
 mod cases;
 
@@ -12,145 +14,115 @@ mod tests {
     use std::alloc::{AllocError, Global};
     use std::process::Abort;
     use std::test::Fail;
+    use tally::Rows;
     use verdict::Outcome;
 
+    // A farm's numbers, and its signatures, station by station.
     #[derive(Clone, Copy)]
-    struct Farm {
-        stations: u8,
-        pages: u8,
-        bound: u8,
+    struct Farm<'a> {
+        stations: usize,
+        pages: usize,
+        bound: usize,
+        signatures: &'a [u8],
+        ghost some: { 0 < pages },
+        ghost bytes: { (stations < 256) × (pages < 256) × (bound < 256) },
     }
 
-    fn read_farm(input: &[u8]) -> Farm {
-        Farm {
-            stations: byte(input, 0),
-            pages: byte(input, 1),
-            bound: byte(input, 2),
-        }
-    }
-
-    fn is_plain(farm: Farm) -> bool {
-        if farm.stations == 3 {
-            2 * (farm.pages as u32) < 3 * (farm.bound as u32)
-        } else {
-            farm.bound >= farm.pages
-        }
-    }
-
-    fn byte(input: &[u8], place: usize) -> u8 {
-        input.get(place).copied().unwrap_or(0)
-    }
-
-    fn row_of(heap: Global, farm: Farm, input: &[u8], station: u8) -> Result<Vec<u32>, AllocError> {
-        let mut row = Vec::new(heap);
-        for page in 0..farm.pages {
-            let place = 3 + station as usize * farm.pages as usize + page as usize;
-            row.push(u32::from(byte(input, place)))?;
-        }
-        Ok(row)
-    }
-
-    fn tell_row(tally: &mut [u32], farm: Farm, station: u8, row: &[u32], signatures: bool) {
-        if signatures {
-            for (before, signature) in row.iter().enumerate() {
-                tally::put_signature(
-                    tally,
-                    farm.pages as usize,
-                    station as usize + 1,
-                    before + 1,
-                    *signature,
-                );
+    impl<'a> Farm<'a> {
+        fn read(rt: &impl Abort, input: &'a [u8]) -> Farm<'a> {
+            let (numbers, signatures) = input.split_at_checked(3).expect(rt, "three numbers");
+            assert!(rt; numbers[1] > 0);
+            Farm {
+                stations: usize::from(numbers[0]),
+                pages: usize::from(numbers[1]),
+                bound: usize::from(numbers[2]),
+                signatures,
             }
         }
-        for j in 1..129 {
-            let sum = page::row_sum::<Small>(row, j);
-            tally::put_sum(tally, farm.pages as usize, station as usize + 1, j, sum);
-        }
-    }
 
-    fn tell_all(heap: Global, farm: Farm, input: &[u8]) -> Result<Vec<u32>, AllocError> {
-        let mut tally = vec![in heap; 0u32; farm.stations as usize * (farm.pages as usize + 128)]?;
-        for station in 0..farm.stations {
-            let row = row_of(heap, farm, input, station)?;
-            tell_row(
-                tally.as_mut_slice(),
-                farm,
-                station,
-                row.as_slice(),
-                station == 0 || is_plain(farm),
-            );
-        }
-        Ok(tally)
-    }
-
-    // Weighs and, if a station is to be asked again, settles.
-    fn judge(farm: Farm, tally: &mut [u32]) -> Result<Outcome, Fail> {
-        if is_plain(farm) {
-            return Ok(Outcome::Filled);
-        }
-        let (stations, pages, bound) = (
-            farm.stations as usize,
-            farm.pages as usize,
-            farm.bound as usize,
-        );
-        match verdict::weigh::<Small>(stations, pages, bound, tally)? {
-            Outcome::Asks(_) => Ok(verdict::settle::<Small>(stations, pages, bound, tally)?),
-            other => Ok(other),
-        }
-    }
-
-    fn check_bad(
-        rt: &impl Abort,
-        farm: Farm,
-        tally: &[u32],
-        bad: &[(usize, usize)],
-    ) -> Result<(), Fail> {
-        for station in 1..farm.stations as usize + 1 {
-            for page in 1..farm.pages as usize + 1 {
-                let listed = bad.contains(&(station, page));
-                assert_eq!(rt;
-                    tally::is_bad(
-                        tally,
-                        farm.stations as usize,
-                        farm.pages as usize,
-                        station,
-                        page,
-                    ),
-                    listed
-                );
+        fn is_plain(&self) -> bool {
+            if self.stations == 3 {
+                2 * self.pages < 3 * self.bound
+            } else {
+                self.bound >= self.pages
             }
         }
-        Ok(())
+
+        // Tells the sums of all stations, and the signatures of the first or, in a plain farm, of all.
+        fn tell(&self, heap: Global) -> Result<Vec<u32>, AllocError> {
+            let mut tally = vec![in heap; 0u32; self.stations * (self.pages + 128)]?;
+            for (before, signatures) in self.signatures.chunks(self.pages).enumerate() {
+                let row: Vec<u32> = signatures
+                    .iter()
+                    .map(|signature| u32::from(*signature))
+                    .collect(heap)?;
+                self.tell_row(tally.as_mut_slice(), before + 1, row.as_slice());
+            }
+            Ok(tally)
+        }
+
+        fn tell_row(&self, tally: &mut [u32], station: usize, row: &[u32]) {
+            if station == 1 || self.is_plain() {
+                for (before, signature) in row.iter().enumerate() {
+                    tally::put_signature(tally, self.pages, station, before + 1, *signature);
+                }
+            }
+            for j in 1..=128 {
+                let sum = page::row_sum::<Small>(row, j);
+                tally::put_sum(tally, self.pages, station, j, sum);
+            }
+        }
+
+        // Weighs and, if a station is to be asked again, settles.
+        fn judge(&self, tally: &mut [u32]) -> Result<Outcome, Fail> {
+            if self.is_plain() {
+                return Ok(Outcome::Filled);
+            }
+            match verdict::weigh::<Small>(self.stations, self.pages, self.bound, tally)? {
+                Outcome::Asks(_) => {
+                    Ok(verdict::settle::<Small>(self.stations, self.pages, self.bound, tally)?)
+                }
+                other => Ok(other),
+            }
+        }
+
+        // What the outcome and the rows come to.
+        fn ending(&self, outcome: Outcome, rows: &Rows) -> Option<usize> {
+            match outcome {
+                Outcome::Filled => rows.first_split(),
+                Outcome::Split(page) => Some(page),
+                _ => None,
+            }
+        }
+    }
+
+    fn check_bad(rt: &impl Abort, rows: &Rows, bad: &[(usize, usize)]) {
+        for station in 1..=rows.stations {
+            for page in 1..=rows.pages {
+                assert_eq!(rt; rows.is_bad(station, page), bad.contains(&(station, page)));
+            }
+        }
     }
 
     fn check_farm(rt: &impl Abort, heap: Global, case: &Case) -> Result<(), Fail> {
-        let farm = read_farm(case.input);
-        let mut tally = tell_all(heap, farm, case.input)?;
-        let outcome = judge(farm, tally.as_mut_slice())?;
-        let split = match outcome {
-            Outcome::Filled => tally::first_split(
-                tally.as_slice(),
-                farm.stations as usize,
-                farm.pages as usize,
-            ),
-            Outcome::Split(page) => Some(page),
-            _ => None,
+        let farm = Farm::read(rt, case.input);
+        let mut tally = farm.tell(heap)?;
+        let outcome = farm.judge(tally.as_mut_slice())?;
+        let rows = Rows {
+            words: tally.as_slice(),
+            stations: farm.stations,
+            pages: farm.pages,
         };
         match case.ending {
-            Ending::Over => {
-                assert!(rt; matches!(outcome, Outcome::Over));
-                Ok(())
-            },
-            Ending::Split(page) => {
-                assert_eq!(rt; split, Some(page));
-                Ok(())
-            },
+            Ending::Over => assert_eq!(rt; outcome, Outcome::Over),
+            Ending::Split(page) => assert_eq!(rt; farm.ending(outcome, &rows), Some(page)),
             Ending::Bad(bad) => {
-                assert!(rt; matches!(outcome, Outcome::Filled));
-                assert_eq!(rt; split, None);
-                check_bad(rt, farm, tally.as_slice(), bad)
+                assert_eq!(rt; outcome, Outcome::Filled);
+                assert_eq!(rt; rows.first_split(), None);
+                check_bad(rt, &rows, bad);
             }
         }
+        Ok(())
     }
 
     #[test]
@@ -169,6 +141,11 @@ mod tests {
         tally[129] = 5;
         tally[258] = 6;
         tally[387] = 6;
-        assert_eq!(rt; tally::first_split(&tally, 4, 1), Some(1));
+        let rows = Rows {
+            words: &tally,
+            stations: 4,
+            pages: 1,
+        };
+        assert_eq!(rt; rows.first_split(), Some(1));
     }
 }
