@@ -26,8 +26,8 @@ gives zero a s is first = λ x j e. omega (arith, e.1.1)
 gives (suc n) a s is first = (
   λ j e. omega (arith, e.1.0),
   λ x j e.
-    let start = first (omega arith) in
-    (e.1.0 ∙ start, gives n (a + 1) j (omega (arith, e.1.1)) (next j.exhausted (left s) n a j.start j.end e.1.1 is (λ q. e.1.2 q ∙ ap (λ k. k + 1) start))),
+      let start = first (omega arith) in
+      (e.1.0 ∙ start, gives n (a + 1) j (omega (arith, e.1.1)) (next j.exhausted (left s) n a j.start j.end e.1.1 is (λ q. e.1.2 q ∙ ap (λ k. k + 1) start))),
 )
 
 abbrev size : ℕ → ℕ → ℕ

@@ -10,6 +10,8 @@ returns-in_default g c =
 pub returns : goal.returns
 returns g c =
     let farm = c.in_ok-farm.farm in
-    let same = c.in_ok-farm.ensures in
-    (search rules, rw (← same.2, ← same.3)
-    (taken_weighs g.F.Field.ops farm.pages farm.bound c.args.tally.now c.settle_taken.new.tally (omega (arith, c.all_sums.ensures, c.first_sums.ensures)) c.settle_taken.result c.settle_taken.ensures))
+    let same = c.in_ok-farm.ensures in (
+      search rules,
+      rw (← same.2, ← same.3)
+          (taken_weighs g.F.Field.ops farm.pages farm.bound c.args.tally.now c.settle_taken.new.tally (omega (arith, c.all_sums.ensures, c.first_sums.ensures)) c.settle_taken.result c.settle_taken.ensures),
+    )
