@@ -18,6 +18,7 @@ pub fn card_in(
 ) -> Result<Vec<u8>, AllocError>
     ensures { IfOk result (λ out. CardText (ops_of field) length job.now out.items) }
 {
+    // A match, since each arm is another instance; a visitor in its place is longer.
     match field {
         FieldName::Small => card_text::<Small>(heap, length, job),
         FieldName::Wide => card_text::<Wide>(heap, length, job),

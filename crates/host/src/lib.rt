@@ -13,6 +13,8 @@ use prime::Prime;
 mod judging;
 mod solving;
 
+// Each call matches on the field, since each arm is another instance; a visitor in the place of five matches is longer.
+
 // What is returned where no field has the number; it is no code of any field.
 const NO_FIELD: u32 = 0xFFFF_FFFF;
 

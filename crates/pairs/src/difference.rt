@@ -8,11 +8,8 @@ ghost use Rattle.pairs.specs.Difference.{solving_pair, Answered};
 use crate::pair_gap::PairGap;
 use field::Field;
 use refusal::{Limit, Refusal};
-use solve::{Entry, solve};
+use solve::{Entry, SUM_LIMIT, solve};
 use tally::Rows;
-
-// The most sums that a difference is solved from.
-pub(crate) const SUM_LIMIT: usize = 128;
 
 // Solves the difference of the stations s and t from their first sums, with at most `weight` codes that are not 0; None where there is none.
 // Refused: the number of pages, then sums that are too many, or too few for the weight.

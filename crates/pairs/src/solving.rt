@@ -6,16 +6,13 @@ ghost use Rattle.tally.specs.Rows.{sum_in};
 ghost use Rattle.pairs.specs.Difference.{Answered};
 ghost use Rattle.pairs.specs.Solving.{solving_pairs, PairsSolved};
 
-use crate::difference::{SUM_LIMIT, solve_pair};
+use crate::difference::solve_pair;
 use crate::pair_gap::PairGap;
 use crate::pair_gaps::PairGaps;
 use field::Field;
 use refusal::{Limit, Refusal};
-use tally::Rows;
-
-const STATIONS_LEAST: usize = 3;
-
-const STATIONS_MOST: usize = 8;
+use solve::SUM_LIMIT;
+use tally::{Rows, accept_stations};
 
 // Solves the differences of all pairs of the stations from their first sums, each with at most half as many codes that are not 0 as there are sums.
 // Refused: the number of stations, of pages, of sums.
@@ -46,9 +43,7 @@ pub fn solve_pairs<F: Field>(
 fn accept<F: Field>(stations: usize, pages: usize, sums: usize) -> Result<(), Refusal>
     ensures { MatchResult result (λ _. Accepted (solving_pairs F.Field.ops stations pages sums)) (Refused (solving_pairs F.Field.ops stations pages sums)) }
 {
-    if stations < STATIONS_LEAST || stations > STATIONS_MOST {
-        return Err(Refusal::Size(Limit::Stations));
-    }
+    accept_stations(stations)?;
     page::accept_pages::<F>(pages)?;
     if sums > SUM_LIMIT {
         return Err(Refusal::Size(Limit::Sums));
@@ -72,6 +67,7 @@ fn solve_above<F: Field>(
         (λ _. ⊥) }
 {
     let mut row = [None; 8];
+    // By number: what is held of t stands at t - 1, and only the stations above s are answered.
     for t in s + 1..=rows.stations {
         row[t - 1] = solve_pair::<F>(rows, s, t, sums, sums / 2)?;
     }

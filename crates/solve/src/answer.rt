@@ -13,7 +13,7 @@ use field::Field;
 use refusal::{Limit, Refusal};
 
 // The most sums that a difference is solved from.
-const SUM_LIMIT: usize = 128;
+pub const SUM_LIMIT: usize = 128;
 
 // Seeks the codes of the pages 1 to `pages`, at most `weight` of them not 0, whose sums 1, 2, .. are the values.
 // Some: how many are not 0; they stand in the list, page by page, with page 0 in all places after. None: there are no such codes.

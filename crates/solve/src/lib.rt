@@ -10,10 +10,10 @@ mod lookup;
 mod polynomial;
 mod verify;
 
-pub use answer::solve;
+pub use answer::{SUM_LIMIT, solve};
 pub use lookup::code_at;
 
-// One page of a solution, with its code; page 0 stands after the last.
+// One page of a solution, with its code. Solving writes a list of 129, lent by its caller: page 0 stands after the last.
 #[repr(C)]
 #[derive(Clone, Copy, PartialEq, Eq, Debug)]
 pub struct Entry {

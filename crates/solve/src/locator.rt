@@ -20,6 +20,7 @@ pub(crate) fn locate<F: Field>(values: &[u32], weight: usize) -> ArrayVec<u32, 1
     let mut divisor = 1;
     let mut degree = 0;
     let mut cleared = 0;
+    // No counted loop: what is cleared falls back where the locator grows.
     while cleared < weight {
         let discrepancy = against::<F>(&locator[..degree + 1], &values[cleared..]);
         if discrepancy == 0 {

@@ -8,6 +8,10 @@ use Rattle.tally.specs.Rows.{Filled, tally_size}
 use Rattle.tally.specs.declared.outcome.Outcome.{Outcome}
 use Rattle.tally.specs.declared.outcome.Outcome.TheVariants.{Over, Split, Filled as RowsFilled, Asks}
 
+-- a number of stations that no farm has is refused
+abbrev pub station_range : ℕ → List Rule
+station_range M = unless (Within 3 8 M) 1 2 ∷ []
+
 -- the number of stations, of pages, the bound, then a tally that is too short
 abbrev pub judging : Ops → (M N bound room : ℕ) → List Rule
 judging f M N bound room =

@@ -3,7 +3,7 @@ ghost use Rattle.std.specs.Prelude.{◌≡◌, length, MatchResult};
 ghost use Rattle.field.specs.Field.{page_limit};
 ghost use Rattle.refusal.specs.Rules.{Refused, Accepted, Within};
 ghost use Rattle.scheme.specs.Askings;
-ghost use Rattle.tally.specs.Judging.{judging};
+ghost use Rattle.tally.specs.Judging.{station_range, judging};
 
 use crate::places::SUM_COUNT;
 use field::Field;
@@ -29,6 +29,16 @@ pub struct Farm<F: Field> {
     ghost bound_in: { Within 1 64 bound },
 }
 
+// Refuses a number of stations that no farm has.
+pub fn accept_stations(stations: usize) -> Result<(), Refusal>
+    ensures { MatchResult result (λ _. Accepted (station_range stations)) (Refused (station_range stations)) }
+{
+    if stations < STATIONS_LEAST || stations > STATIONS_MOST {
+        return Err(Refusal::Size(Limit::Stations));
+    }
+    Ok(())
+}
+
 impl<F: Field> Farm<F> {
     // Refused: the number of stations, of pages, the bound, then a tally that is too short for the rows.
     pub fn judged(
@@ -42,9 +52,7 @@ impl<F: Field> Farm<F> {
             × (farm.stations ≡ stations) × (farm.pages ≡ pages) × (farm.bound ≡ bound))
             (Refused (judging F.Field.ops stations pages bound (length tally.now))) }
     {
-        if stations < STATIONS_LEAST || stations > STATIONS_MOST {
-            return Err(Refusal::Size(Limit::Stations));
-        }
+        accept_stations(stations)?;
         page::accept_pages::<F>(pages)?;
         if bound < 1 || bound > BOUND_LIMIT {
             return Err(Refusal::Size(Limit::Bound));
