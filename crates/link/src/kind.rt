@@ -5,7 +5,7 @@ ghost use Rattle.link.specs.Kinds.{kind_number};
 use crate::asked::Asked;
 
 #[derive(Clone, Copy, PartialEq, Eq, Debug)]
-pub enum Kind {
+pub(crate) enum Kind {
     // which check asks
     Check,
     // which station is asked

@@ -10,8 +10,7 @@ mod theorems;
 mod words;
 
 pub use asked::Asked;
-pub use kind::Kind;
 pub use reply::read_reply;
 pub use request::Request;
 pub use theorems::{replies_read_back, requests_read_back};
-pub use words::word;
+pub use words::value_word;

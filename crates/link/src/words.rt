@@ -7,8 +7,15 @@ use crate::kind::Kind;
 
 pub(crate) const VALUE_LIMIT: u32 = 1 << 28;
 
+// The value word of a reply that carries this number, counted modulo 2^28.
+pub fn value_word(number: u32) -> u32
+    ensures { result ≡ Words.word 6 (Words.value_of number) }
+{
+    word(Kind::Value, value(number))
+}
+
 // A word of this kind with this value.
-pub fn word(kind: Kind, value: u32) -> u32
+pub(crate) fn word(kind: Kind, value: u32) -> u32
     requires { value < 2 ^ 28 }
     ensures { result ≡ Words.word (kind_number kind) value }
 {

@@ -7,7 +7,7 @@ ghost use Rattle.station.specs.Serving.{serving, index_limit, answer, answers, I
 
 use crate::trait_station::{SUM_LIMIT, Station};
 use field::Field;
-use link::{Asked, Kind, Request};
+use link::{Asked, Request};
 use refusal::{Buffer, Refusal};
 
 // Answers a request to the station with this number: how many words of the reply are written.
@@ -75,7 +75,7 @@ fn write_answers<F: Field, S: Station<F>>(station: &S, request: &Request, values
 {
     for (k, value) in values.iter_mut().enumerate() {
         let answer = ask::<F, S>(station, request.asked, request.first as usize + k);
-        *value = link::word(Kind::Value, answer);
+        *value = link::value_word(answer);
     }
 }
 
