@@ -54,6 +54,7 @@ impl<M: Modulus> Field for Binary<M> {
     }
 
     fn alpha_pow(n: usize) -> u32 {
+        // A match, since a closure that calls a method of this block gets no proof.
         match M::tabled_power(n) {
             Some(power) => power,
             None => Self::pow(Self::ALPHA, n),

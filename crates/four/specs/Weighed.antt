@@ -3,20 +3,20 @@ use Rattle.std.specs.Prelude.{◌≡◌, ℕ, List}
 use Rattle.field.specs.Field.{Ops}
 use Rattle.scheme.specs.Askings as rules
 use Rattle.scheme.specs.Four.{Doubted}
-use Rattle.scheme.specs.Weighing.{WeighsFour}
 use Rattle.pairs.specs.Held.{gaps_in}
-use Rattle.tally.specs.Rows.{sum_in, signature_in}
+use Rattle.tally.specs.Rows.{sum_in}
 use Rattle.tally.specs.Judging.{Ends}
 use Rattle.four.specs.declared.weighing.Weighing.{Weighing}
 use Rattle.four.specs.declared.weighing.Weighing.TheVariants.{Ended, Doubted as InDoubt}
+use Rattle.four.specs.Outcomes.{Weighs}
 use Rattle.four.specs.Relied.{relied}
 
 module _ (f : Ops) (M N bound : ℕ) (before after : List ℕ) where
   -- what the first sums come to where nobody is asked again
   abbrev pub EndsAtOnce : rules.Outcome → Type 0
-  EndsAtOnce rules.over = WeighsFour f M N bound (sum_in before N) (signature_in before N 1) rules.over
-  EndsAtOnce (rules.split n) = WeighsFour f M N bound (sum_in before N) (signature_in before N 1) (rules.split n)
-  EndsAtOnce (rules.filled R) = WeighsFour f M N bound (sum_in before N) (signature_in before N 1) (rules.filled R)
+  EndsAtOnce rules.over = Weighs f M N bound before after rules.over
+  EndsAtOnce (rules.split n) = Weighs f M N bound before after (rules.split n)
+  EndsAtOnce (rules.filled R) = Weighs f M N bound before after (rules.filled R)
   EndsAtOnce (rules.asks k) = ⊥
 
   abbrev pub Weighed : Weighing → Type 0

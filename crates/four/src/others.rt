@@ -3,7 +3,7 @@
 use field::Field;
 use tally::Farm;
 
-// Nobody is set aside where `aside` is 0, which is no station.
+// Nobody is set aside where `aside` is 0, which is no station: an Option would have to be taken apart wherever a station is compared with it.
 #[derive(Drop)]
 pub(crate) struct Others<'a, F: Field, G> {
     pub farm: &'a Farm<F>,

@@ -49,7 +49,7 @@ impl<'a, F: Field, G: RowGaps<F>> Others<'a, F, G> {
         if self.aside == 1 { 2 } else { 1 }
     }
 
-    // The differences of the station beside from the leads, page by page; nothing reads past the pages.
+    // The differences of the station beside from the leads, page by page. No heap: room for the most pages, of which the farm's are read.
     fn lead_gaps(&self) -> [u32; 1920]
         ensures { (n : ℕ) → Page self.now.farm.now.pages n → entry result n
             ≡ G.RowGaps.gaps self.now.gaps.now (Four.beside self.now.aside) (lead_of_others self.now.farm.now.stations (G.RowGaps.gaps self.now.gaps.now) self.now.aside n) n }
@@ -62,7 +62,7 @@ impl<'a, F: Field, G: RowGaps<F>> Others<'a, F, G> {
         row
     }
 
-    // The sums of the difference of the station aside from the leads, from place 0 on; nothing reads past all sums.
+    // The sums of the difference of the station aside from the leads, from place 0 on. No heap: room for the most sums, of which all that are told are read.
     fn lead_sums(&self, tally: &[u32]) -> [u32; 128]
         ensures { (k : ℕ) → k < all_sums self.now.farm.now.pages self.now.farm.now.bound → slice_index result k
             ≡ sum_from_leads F.Field.ops self.now.farm.now.stations self.now.farm.now.pages self.now.farm.now.bound

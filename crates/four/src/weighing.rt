@@ -16,7 +16,7 @@ use field::Field;
 use pairs::{Doubt, solve_pairs};
 use tally::{Farm, Outcome};
 
-// What comes after the first asking.
+// What comes after the first asking. No Result, since neither is an error.
 #[derive(Drop)]
 pub(crate) enum Weighing {
     // it ends, and nobody is asked again

@@ -15,7 +15,7 @@ const SPLIT: u32 = 252;
 
 const ASKS: u32 = 253;
 
-const NO_FIELD: u32 = 255;
+pub(crate) const NO_FIELD: u32 = 255;
 
 // Weighs in the field with this number: 1 small, 2 wide, 3 prime.
 // Returns 0: the rows are filled. 251: over. 252: split at the page in `place`. 253: the station in `place` is to be asked again.

@@ -2,16 +2,15 @@
 ghost use Rattle.std.specs.Prelude.{◌≡◌};
 ghost use Rattle.host.specs.Solving.{Ends, EndsIn};
 
+use crate::judging::NO_FIELD;
 use binary::{Small, Wide};
 use field::Field;
 use fields::FieldName;
 use prime::Prime;
 use solve::Entry;
 
-// What is returned where there is no solution, and where no field has the number; refusals have lower numbers.
+// What is returned where there is no solution; refusals have lower numbers.
 const NONE: u32 = 254;
-
-const NO_FIELD: u32 = 255;
 
 // Solves in the field with this number: 1 small, 2 wide, 3 prime.
 // Returns 0: solved, `count` pages in the list. 254: there is no solution. 255: no such field. Else the refusal's number, with its place.

@@ -1,4 +1,5 @@
 // One page of a job, and its signature. Only this file knows which bytes a signature runs over.
+// A job's bytes and the page length stay two parameters, as other programs hand them in.
 ghost use Rattle.std.specs.Prelude.{◌≡◌, fold};
 ghost use Rattle.page.specs.Pages.{page_bytes, signed_bytes, absorb, signature, page_signature};
 

@@ -31,6 +31,7 @@ pub fn solve_pair<F: Field>(
     }
     let values = differences::<F>(rows, s, t);
     let mut list = [Entry { page: 0, code: 0 }; 129];
+    // A match, since in a closure nothing is known of how long the list is.
     match solve::<F>(rows.pages, &values[..sums], weight, &mut list)? {
         Some(found) => Ok(Some(PairGap {
             weight: found,

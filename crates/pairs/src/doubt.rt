@@ -32,6 +32,7 @@ impl PairGaps {
         if self.has_two_apart() {
             return Doubt::TwoApart;
         }
+        // No station is 0: this leaves out no pair.
         match self.first_apart(0, 0) {
             Some((s, t)) => self.doubt_from(s, t),
             None => Doubt::Nobody,

@@ -3,7 +3,7 @@ ghost use Rattle.std.specs.Prelude.{◌≡◌, length};
 
 use solve::Entry;
 
-// How many pages the difference has on which it is not 0, and their list, as solving writes it.
+// How many pages the difference has on which it is not 0, and their list: no heap, so the 129 places that solving writes.
 #[derive(Clone, Copy)]
 pub struct PairGap {
     pub weight: usize,

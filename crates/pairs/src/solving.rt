@@ -34,6 +34,7 @@ pub fn solve_pairs<F: Field>(
         pages,
     };
     let mut pairs = [[None; 8]; 8];
+    // By number: the row of s is that at s - 1, and the last has none.
     for s in 1..stations {
         pairs[s - 1] = solve_above::<F>(&rows, s, sums)?;
     }

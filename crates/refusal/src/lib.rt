@@ -45,6 +45,7 @@ pub enum Buffer {
     Other,
 }
 
+// By hand: the numbers and places are told to operators and other programs, and follow no order of the cases.
 impl Refusal {
     pub fn number(self) -> u32
         ensures { result ≡ Numbers.number self }

@@ -39,6 +39,7 @@ fn roots<F: Field>(locator: &[u32], pages: usize) -> ArrayVec<Candidate, 128>
 {
     let mut found = ArrayVec::new();
     let mut point = 1;
+    // From 0: what is found so far is of the first `before` pages; with 1..=pages the last turn is proved apart.
     for before in 0..pages {
         point = F::mul(point, F::ALPHA);
         if evaluate::<F>(locator, point) == 0 {

@@ -14,6 +14,7 @@ pub(crate) fn locate<F: Field>(values: &[u32], weight: usize) -> ArrayVec<u32, 1
     requires values_reach { weight + weight ≤ length values.now }
     ensures { Locates F.Field.ops weight (at values.now) result.items }
 {
+    // No heap: room for 129 coefficients, of which the first degree + 1 are the locator.
     let mut locator = [0; 129];
     locator[0] = 1;
     let mut previous = [0; 129];

@@ -8,6 +8,7 @@ use crate::Entry;
 pub fn code_at(list: &[Entry; 129], page: usize) -> u32
     ensures { result ≡ Answer.code_at list.now page }
 {
+    // A loop, since what a chain of take_while and find comes to stays open.
     for entry in list {
         if entry.page == 0 {
             return 0;

@@ -4,8 +4,8 @@ ghost use Rattle.refusal.specs.Rules.{Refused, Accepted};
 ghost use Rattle.station.specs.Kinds.{making_card, card_row};
 ghost use Rattle.station.specs.Codes.{card_codes};
 
-use crate::questions::{accept_page, accept_sum};
-use crate::trait_station::Station;
+use crate::questions::accept_index;
+use crate::trait_station::{SUM_LIMIT, Station};
 use field::Field;
 use refusal::Refusal;
 use std::marker::PhantomData;
@@ -42,12 +42,12 @@ impl<'a, F: Field> Station<F> for Card<'a, F> {
     }
 
     fn signature(&self, page: usize) -> Result<u32, Refusal> {
-        accept_page(page, self.page_count())?;
+        accept_index(page, self.page_count())?;
         Ok(self.words[page - 1] % F::SIZE)
     }
 
     fn sum(&self, j: usize) -> Result<u32, Refusal> {
-        accept_sum(j)?;
+        accept_index(j, SUM_LIMIT)?;
         Ok(page::row_sum::<F>(self.words, j))
     }
 }

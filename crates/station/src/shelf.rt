@@ -5,8 +5,8 @@ ghost use Rattle.page.specs.Pages.{cutting, page_count};
 ghost use Rattle.station.specs.Kinds.{job_row};
 ghost use Rattle.station.specs.Codes.{job_codes};
 
-use crate::questions::{accept_page, accept_sum};
-use crate::trait_station::Station;
+use crate::questions::accept_index;
+use crate::trait_station::{SUM_LIMIT, Station};
 use field::Field;
 use refusal::Refusal;
 use std::marker::PhantomData;
@@ -48,12 +48,12 @@ impl<'a, F: Field> Station<F> for Shelf<'a, F> {
     }
 
     fn signature(&self, page: usize) -> Result<u32, Refusal> {
-        accept_page(page, self.page_count())?;
+        accept_index(page, self.page_count())?;
         Ok(page::page_signature::<F>(self.job, self.page_length, page))
     }
 
     fn sum(&self, j: usize) -> Result<u32, Refusal> {
-        accept_sum(j)?;
+        accept_index(j, SUM_LIMIT)?;
         Ok(page::job_sum::<F>(self.job, self.page_length, self.pages, j))
     }
 }

@@ -1,6 +1,6 @@
 -- Places capped at the machine's largest number: products, and lists that are shorter.
-use Rattle.std.proofs.Common.{◌≡◌, ℕ, zero, suc, ◌*◌, ◌≤◌, min, List, length, get_or, set, sym, ap, ◌∙◌, ⊎_elim, suc-mul, zero-mul, arith}
-use Rattle.std.proofs.lemmas.List.{get_or_past, set_past}
+use Rattle.std.proofs.Common.{◌≡◌, ℕ, zero, suc, ◌*◌, ◌≤◌, min, List, length, set, sym, ap, ◌∙◌, ⊎_elim, suc-mul, zero-mul, arith}
+use Rattle.std.proofs.lemmas.List.{set_past}
 use Rattle.std.proofs.lemmas.Bool.{cases_lt}
 
 pub capped_product : (a b c m : ℕ) → b ≡ min c m → min (a * b) m ≡ min (a * c) m
@@ -12,13 +12,6 @@ capped_product (suc a) b c m e =
     (cases_lt m c)
 
 module _ (xs : List ℕ) (m : ℕ) (short : length xs ≤ m) where
-  pub get_or_capped : (i p : ℕ) → i ≡ min p m → get_or xs i 0 ≡ get_or xs p 0
-  get_or_capped i p e =
-      ⊎_elim
-      (λ past. get_or_past xs i 0 (omega arith) ∙ sym (get_or_past xs p 0 (omega arith)))
-      (λ within. ap (λ k. get_or xs k 0) (let q : i ≡ p = omega arith in q))
-      (cases_lt m p)
-
   pub set_capped : (i p v : ℕ) → i ≡ min p m → set xs i v ≡ set xs p v
   set_capped i p v e =
       ⊎_elim

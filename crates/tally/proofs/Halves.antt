@@ -1,5 +1,5 @@
--- Rows gone through one by one: what holds of all pages so far, how many hold a signature, and whether that is more than half.
-use Rattle.std.proofs.Common.{◌≡◌, ℕ, ◌*◌, ◌/◌, Bool, true, false, leb, refl, ap, arith, leb-false, leb-true}
+-- Copies that are not bad, and pages on which none is.
+use Rattle.std.proofs.Common.{ℕ, ◌*◌, Bool, true, false, ap, arith}
 use Rattle.std.specs.Bool.{MatchBool}
 use native.Mathlib.Decide.{dec_lt}
 use Rattle.scheme.specs.Farm.{Table, Station, holders, Majority, Decided, Bad, group}
@@ -7,16 +7,6 @@ use Rattle.scheme.proofs.Search.{sure}
 use Rattle.scheme.proofs.Tables.{holder}
 
 module _ (M : ℕ) (R : Table) where
-  -- what a test says of a copy
-  abbrev pub BadTold : ℕ → ℕ → Bool → Type 0
-  BadTold s n b = MatchBool b (Bad M R s n) (¬ Bad M R s n)
-
-  pub bad_told : (s n h : ℕ) → h ≡ group M R n s → BadTold s n (leb h (M / 2))
-  bad_told s n h e = elim (leb h (M / 2)) as (λ b. leb h (M / 2) ≡ b → BadTold s n b) [
-    | true ↦ λ t most. omega (arith, leb-true h (M / 2) t)
-    | false ↦ λ t bad. bad (omega (arith, leb-false h (M / 2) t))
-  ] refl
-
   pub not_bad : (s n : ℕ) → ¬ Bad M R s n → Majority M R n (R s n)
   not_bad s n = sure (dec_lt M (2 * group M R n s))
 

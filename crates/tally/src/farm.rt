@@ -18,6 +18,7 @@ const STATIONS_MOST: usize = 8;
 const BOUND_LIMIT: usize = 64;
 
 // How many stations it has and how many pages each, and how many stray copies are reckoned with: all within their limits.
+// The tally stands beside it and not in it: it is read while others borrow the farm, and written last.
 #[derive(Drop)]
 pub struct Farm<F: Field> {
     pub stations: usize,

@@ -51,7 +51,7 @@ fn write_bad(rows: &Rows, pages: u32, station: usize, out: &mut [u32])
         ++ drop (length (bad_pages rows.now.stations (signature_in rows.now.words.now rows.now.pages) station pages)) out.old }
 {
     let mut count = 0;
-    // Counted by hand, since the place moves on at a bad page only.
+    // Counted by hand: after a loop over the places and the bad pages side by side nothing is known of what was written.
     for before in 0..pages {
         if rows.is_bad(station, before as usize + 1) {
             out[count] = before + 1;

@@ -1,4 +1,5 @@
 // The places of a tally, and writing one. A place past its end is not written.
+// What writes takes the tally and the pages: rows that are written would be a second struct beside `Rows`, for three calls.
 ghost use Rattle.std.specs.Prelude.{◌≡◌, ◌-◌, ◌^◌, min, slice_index, slice_set};
 ghost use Rattle.tally.specs.Rows.{signature_place, sum_place};
 ghost use Rattle.tally.specs.Rows;
