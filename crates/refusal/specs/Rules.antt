@@ -15,6 +15,10 @@ pub record Rule : Type 1 where
 abbrev pub unless : Type 0 → ℕ → ℕ → Rule
 unless p n k = record { due = λ r. (p → ⊥) × (number r ≡ n) × (place r ≡ k); clear = p }
 
+-- refuse by number n at place k when p holds
+abbrev pub when : Type 0 → ℕ → ℕ → Rule
+when p n k = record { due = λ r. p × (number r ≡ n) × (place r ≡ k); clear = p → ⊥ }
+
 -- k is the lowest place, from 1, at which p holds
 abbrev pub LowestAt : (ℕ → Type 0) → ℕ → Type 0
 LowestAt p k = (1 ≤ k) × p k × ((i : ℕ) → 1 ≤ i → i < k → p i → ⊥)

@@ -12,6 +12,10 @@ use Rattle.tally.specs.declared.outcome.Outcome.TheVariants.{Over, Split, Filled
 abbrev pub station_range : ℕ → List Rule
 station_range M = unless (Within 3 8 M) 1 2 ∷ []
 
+-- the number of stations, of pages, then the bound
+abbrev pub farm_range : Ops → (M N bound : ℕ) → List Rule
+farm_range f M N bound = unless (Within 3 8 M) 1 2 ∷ unless (Within 1 (page_limit f) N) 1 3 ∷ unless (Within 1 64 bound) 1 4 ∷ []
+
 -- the number of stations, of pages, the bound, then a tally that is too short
 abbrev pub judging : Ops → (M N bound room : ℕ) → List Rule
 judging f M N bound room =

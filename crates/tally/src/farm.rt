@@ -3,7 +3,7 @@ ghost use Rattle.std.specs.Prelude.{◌≡◌, length, MatchResult};
 ghost use Rattle.field.specs.Field.{page_limit};
 ghost use Rattle.refusal.specs.Rules.{Refused, Accepted, Within};
 ghost use Rattle.scheme.specs.Askings;
-ghost use Rattle.tally.specs.Judging.{station_range, judging};
+ghost use Rattle.tally.specs.Judging.{station_range, farm_range, judging};
 
 use crate::places::SUM_COUNT;
 use field::Field;
@@ -41,7 +41,27 @@ pub fn accept_stations(stations: usize) -> Result<(), Refusal>
 }
 
 impl<F: Field> Farm<F> {
-    // Refused: the number of stations, of pages, the bound, then a tally that is too short for the rows.
+    // Refused: the number of stations, of pages, then the bound.
+    pub fn new(stations: usize, pages: usize, bound: usize) -> Result<Farm<F>, Refusal>
+        ensures { MatchResult result
+            (λ farm. Accepted (farm_range F.Field.ops stations pages bound)
+            × (farm.stations ≡ stations) × (farm.pages ≡ pages) × (farm.bound ≡ bound))
+            (Refused (farm_range F.Field.ops stations pages bound)) }
+    {
+        accept_stations(stations)?;
+        page::accept_pages::<F>(pages)?;
+        if bound < 1 || bound > BOUND_LIMIT {
+            return Err(Refusal::Size(Limit::Bound));
+        }
+        Ok(Farm {
+            stations,
+            pages,
+            bound,
+            field: PhantomData,
+        })
+    }
+
+    // Refused: what no farm has, then a tally that is too short for the rows.
     pub fn judged(
         stations: usize,
         pages: usize,
@@ -53,20 +73,11 @@ impl<F: Field> Farm<F> {
             × (farm.stations ≡ stations) × (farm.pages ≡ pages) × (farm.bound ≡ bound))
             (Refused (judging F.Field.ops stations pages bound (length tally.now))) }
     {
-        accept_stations(stations)?;
-        page::accept_pages::<F>(pages)?;
-        if bound < 1 || bound > BOUND_LIMIT {
-            return Err(Refusal::Size(Limit::Bound));
-        }
+        let farm = Farm::new(stations, pages, bound)?;
         if stations * (pages + SUM_COUNT) > tally.len() {
             return Err(Refusal::Cramped(Buffer::Tally));
         }
-        Ok(Farm {
-            stations,
-            pages,
-            bound,
-            field: PhantomData,
-        })
+        Ok(farm)
     }
 
     // Sums 1 to this are told of a station that is asked again.

@@ -12,6 +12,6 @@ mod rows;
 pub use farm::{Farm, accept_stations};
 pub use listing::list_bad;
 pub use outcome::Outcome;
-pub use places::{put_signature, put_sum};
+pub use places::{SUM_COUNT, put_signature, put_sum};
 pub use row::put_row;
 pub use rows::Rows;

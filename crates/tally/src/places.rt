@@ -5,7 +5,7 @@ ghost use Rattle.tally.specs.Rows.{signature_place, sum_place};
 ghost use Rattle.tally.specs.Rows;
 
 // The sums in each row.
-pub(crate) const SUM_COUNT: usize = 128;
+pub const SUM_COUNT: usize = 128;
 
 // The signature of a page in the row of a station; past the end, 0.
 pub(crate) fn signature_at(tally: &[u32], pages: usize, station: usize, page: usize) -> u32
