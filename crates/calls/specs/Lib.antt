@@ -1,0 +1,11 @@
+pub mod Standings
+pub mod Questions
+pub mod Entering
+pub mod Opening
+pub mod Slips
+pub mod Closing
+pub mod Endings
+pub mod Listing
+pub mod Runs
+pub mod Steady
+pub mod Promise

@@ -1,0 +1,106 @@
+// Entering the own copy and the values of replies into the rows of a tally.
+ghost use Rattle.std.specs.Prelude.{◌≡◌, ◌+◌, ◌≤◌, length, replicate, drop, ◌++◌, slice_set};
+ghost use Rattle.field.specs.Sums.{entry, power_sum};
+ghost use Rattle.algebra.specs.Vectors.{Page};
+ghost use Rattle.scheme.specs.Askings.{all_sums};
+ghost use Rattle.tally.specs.Rows.{tally_size, signature_place, sum_place};
+ghost use Rattle.calls.specs.Entering.{Placed, RowsOpened, Entered, place_of};
+
+use crate::terms::Terms;
+use field::Field;
+use link::{Asked, Request};
+use station::Station;
+use tally::{SUM_COUNT, put_signature, put_sum};
+
+const VALUE_LIMIT: u32 = 1 << 28;
+
+impl Terms {
+    // How many words the rows have.
+    pub(crate) fn tally_size(&self) -> usize
+        ensures { result ≡ tally_size self.now.stations self.now.pages }
+    {
+        self.stations as usize * (self.pages as usize + SUM_COUNT)
+    }
+}
+
+// Clears the rows, and fills row 1 with the signatures of the own copy and their sums.
+pub(crate) fn open_rows<F: Field, S: Station<F>>(own: &S, terms: &Terms, tally: &mut [u32])
+    requires whole { length (S.Station.row own.now) ≡ terms.now.pages }
+    requires room { tally_size terms.now.stations terms.now.pages ≤ length tally.old }
+    ensures { RowsOpened F.Field.ops (S.Station.row own.now) terms.now.stations terms.now.pages (all_sums terms.now.pages terms.now.bound) tally.old tally.new }
+{
+    tally[..terms.tally_size()].fill(0);
+    let pages = terms.pages as usize;
+    fill_signatures::<F, S>(own, pages, tally);
+    fill_sums::<F, S>(own, pages, terms.all_sums() as usize, tally);
+}
+
+// Puts the signatures of all pages into row 1.
+fn fill_signatures<F: Field, S: Station<F>>(own: &S, pages: usize, tally: &mut [u32])
+    requires short { pages ≤ 1920 }
+    requires whole { length (S.Station.row own.now) ≡ pages }
+    ensures { Placed (signature_place pages 1) (entry (S.Station.row own.now)) 1 (pages + 1) tally.old tally.new }
+{
+    for page in 1..=pages {
+        let signature = own_signature::<F, S>(own, page);
+        put_signature(tally, pages, 1, page, signature);
+    }
+}
+
+// Puts the sums 1 to `sums` into row 1.
+fn fill_sums<F: Field, S: Station<F>>(own: &S, pages: usize, sums: usize, tally: &mut [u32])
+    requires told { sums ≤ 128 }
+    requires whole { length (S.Station.row own.now) ≡ pages }
+    ensures { Placed (sum_place pages 1) (power_sum F.Field.ops pages (entry (S.Station.row own.now))) 1 (sums + 1) tally.old tally.new }
+{
+    for j in 1..=sums {
+        let sum = own_sum::<F, S>(own, j);
+        put_sum(tally, pages, 1, j, sum);
+    }
+}
+
+// The signature of a page that the own copy has.
+fn own_signature<F: Field, S: Station<F>>(own: &S, page: usize) -> u32
+    requires { Page (length (S.Station.row own.now)) page }
+    ensures { result ≡ entry (S.Station.row own.now) page }
+{
+    match own.signature(page) {
+        Ok(signature) => signature,
+        Err(_) => unreachable(),
+    }
+}
+
+// A sum that every station tells.
+fn own_sum<F: Field, S: Station<F>>(own: &S, j: usize) -> u32
+    requires { Page 128 j }
+    ensures { result ≡ power_sum F.Field.ops (length (S.Station.row own.now)) (entry (S.Station.row own.now)) j }
+{
+    match own.sum(j) {
+        Ok(sum) => sum,
+        Err(_) => unreachable(),
+    }
+}
+
+// Puts the value words of a reply to the request into the row of its station.
+// The indices start at 1: an index 0 would share its place with index 1.
+pub(crate) fn enter_values(pages: usize, request: &Request, values: &[u32], tally: &mut [u32])
+    requires from { 1 ≤ request.now.first }
+    ensures { Entered pages request.now values.now tally.old tally.new }
+{
+    let station = request.station as usize;
+    for (k, word) in values.iter().enumerate() {
+        let index = request.first as usize + k;
+        let value = *word % VALUE_LIMIT;
+        enter(request.asked, pages, station, index, value, tally);
+    }
+}
+
+// Puts one value into the row of the station.
+fn enter(asked: Asked, pages: usize, station: usize, index: usize, value: u32, tally: &mut [u32])
+    ensures { tally.new ≡ slice_set tally.old (place_of asked pages station index) value }
+{
+    match asked {
+        Asked::Sums => put_sum(tally, pages, station, index, value),
+        Asked::Signatures => put_signature(tally, pages, station, index, value),
+    }
+}

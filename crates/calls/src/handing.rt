@@ -1,0 +1,85 @@
+// Handing out slips.
+ghost use Rattle.std.specs.Prelude.{◌≡◌, ◌≤◌, ◌++◌, length, drop, MatchResult};
+ghost use Rattle.refusal.specs.Rules.{Refused, Accepted, Within};
+ghost use Rattle.link.specs.Requests.{request_words};
+ghost use Rattle.calls.specs.Slips.{slipping, Asks, Slips};
+
+use crate::book::Book;
+use crate::check::Check;
+use crate::slip::Slip;
+use crate::stages::Asking;
+use crate::standing::Standing;
+use field::Field;
+use link::Request;
+use refusal::{Buffer, Refusal};
+
+impl<F: Field, P: Asking> Check<F, P> {
+    // Hands out a slip for a station 2 to M, and writes the words of its request.
+    // Refused: a short buffer, no such station, not the one that is asked again, its slip is out, its reply is in, too many slips; then nothing changes.
+    pub fn slip(&mut self, station: u32, request: &mut [u32]) -> Result<Slip, Refusal>
+        ensures book { Slips self.old.book (P.Asking.only self.old.phase) station request.old result self.new.book request.new }
+        ensures phase { self.new.phase ≡ self.old.phase }
+    {
+        self.book.hand_out(self.phase.only(), station, request)
+    }
+}
+
+impl Book {
+    fn hand_out(
+        &mut self,
+        only: Option<u32>,
+        station: u32,
+        words: &mut [u32],
+    ) -> Result<Slip, Refusal>
+        ensures { Slips self.old only station words.old result self.new words.new }
+    {
+        self.can_hand_out(only, station, words.len())?;
+        let request = self.request_to(station);
+        words[..4].copy_from_slice(&request.words());
+        self.standings[station as usize] = Standing::Out;
+        self.counts.handed += 1;
+        self.counts.out += 1;
+        Ok(Slip { request })
+    }
+
+    fn can_hand_out(&self, only: Option<u32>, station: u32, room: usize) -> Result<(), Refusal>
+        ensures { MatchResult result (λ _. Accepted (slipping self.now only station room)) (Refused (slipping self.now only station room)) }
+    {
+        if room < 4 {
+            return Err(Refusal::Cramped(Buffer::Other));
+        }
+        if station < 2 || station > self.terms.stations {
+            return Err(Refusal::Unknown(station));
+        }
+        if only.is_some_and(|asked| asked != station) {
+            return Err(Refusal::Unasked(station));
+        }
+        match self.standings[station as usize] {
+            Standing::Out | Standing::Heard => return Err(Refusal::Out(station)),
+            Standing::Done => return Err(Refusal::In(station)),
+            Standing::Free => {}
+        }
+        if self.counts.handed == u32::MAX {
+            return Err(Refusal::Range);
+        }
+        Ok(())
+    }
+
+    // The request of this asking to the station.
+    fn request_to(&self, station: u32) -> Request
+        requires { station ≤ 8 }
+        ensures { Asks self.now station result }
+    {
+        let question = self.question;
+        match Request::new(
+            self.terms.number,
+            station,
+            question.asked,
+            question.first,
+            question.last,
+        ) {
+            Some(request) => request,
+            None => unreachable(),
+        }
+    }
+}

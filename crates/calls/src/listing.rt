@@ -1,0 +1,49 @@
+// Listing the bad pages of a station.
+ghost use Rattle.calls.specs.Listing;
+
+use crate::book::Book;
+use crate::check::Check;
+use crate::phases::Verdict;
+use crate::stages::Finding;
+use field::Field;
+use refusal::{Buffer, Refusal};
+use tally::list_bad;
+
+impl<F: Field, P: Finding> Check<F, P> {
+    // Writes the bad pages of one station, rising, and tells how many there are.
+    // Refused: a short tally, no report, no such station, a buffer too short for these pages; then nothing changes.
+    pub fn list(&self, station: u32, tally: &[u32], out: &mut [u32]) -> Result<usize, Refusal>
+        ensures { Listing.Listing self.now.book.terms (P.Finding.found self.now.phase) station tally.now out.old result out.new }
+    {
+        self.book.list_pages(self.phase.found(), station, tally, out)
+    }
+}
+
+impl Book {
+    fn list_pages(
+        &self,
+        found: Option<Verdict>,
+        station: u32,
+        tally: &[u32],
+        out: &mut [u32],
+    ) -> Result<usize, Refusal>
+        ensures { Listing.Listing self.now.terms found station tally.now out.old result out.new }
+    {
+        if self.terms.tally_size() > tally.len() {
+            return Err(Refusal::Cramped(Buffer::Tally));
+        }
+        let Some(Verdict::Report) = found else {
+            return Err(Refusal::Silent);
+        };
+        if station < 1 || station > self.terms.stations {
+            return Err(Refusal::Unknown(station));
+        }
+        list_bad(
+            tally,
+            self.terms.stations as usize,
+            self.terms.pages,
+            station as usize,
+            out,
+        )
+    }
+}

@@ -1,0 +1,68 @@
+// Settling: the end of the second asking.
+ghost use Rattle.std.specs.Prelude.{◌≡◌, ◌≤◌, length};
+ghost use Rattle.field.specs.Field.{page_limit};
+ghost use Rattle.refusal.specs.Rules.{Within};
+ghost use Rattle.tally.specs.Rows.{tally_size};
+ghost use Rattle.verdict.specs.Judging;
+ghost use Rattle.calls.specs.Closing.{Settling, SettleEnds, Finds};
+
+use crate::check::Check;
+use crate::ending::Ending;
+use crate::phases::{Closed, Second, Verdict};
+use crate::terms::Terms;
+use crate::weighed::Declined;
+use field::Field;
+use tally::Outcome;
+
+impl<F: Field> Check<F, Second> {
+    // Ends the second asking and closes the check, by what stands in the tally that it is handed. Refused as weighing is.
+    pub fn settle(self, tally: &mut [u32]) -> Result<Check<F, Closed>, Declined<Check<F, Second>>>
+        ensures { Settling F.Field.ops self tally.old result tally.new }
+    {
+        if let Err(refusal) = self.book.can_close(tally.len()) {
+            return Err(Declined {
+                check: self,
+                refusal,
+            });
+        }
+        let verdict = self.book.terms.settle_rows::<F>(tally);
+        let Check { book, field, .. } = self;
+        Ok(Check {
+            book,
+            phase: Closed { verdict },
+            field,
+        })
+    }
+}
+
+impl Terms {
+    // What all sums come to.
+    fn settle_rows<F: Field>(&self, tally: &mut [u32]) -> Verdict
+        requires pages { Within 1 (page_limit F.Field.ops) self.now.pages }
+        requires room { tally_size self.now.stations self.now.pages ≤ length tally.old }
+        ensures { Finds (SettleEnds F.Field.ops self.now tally.old) self.now.stations self.now.pages tally.old tally.new result }
+    {
+        let outcome = self.settle_sums::<F>(tally);
+        match self.ending_of(outcome, tally) {
+            Ending::Closes(verdict) => verdict,
+            Ending::Asks(_) => unreachable(),
+        }
+    }
+
+    // Settling that cannot be refused.
+    fn settle_sums<F: Field>(&self, tally: &mut [u32]) -> Outcome
+        requires pages { Within 1 (page_limit F.Field.ops) self.now.pages }
+        requires room { tally_size self.now.stations self.now.pages ≤ length tally.old }
+        ensures { Judging.Settled F.Field.ops self.now.stations self.now.pages self.now.bound tally.old tally.new result }
+    {
+        match verdict::settle::<F>(
+            self.stations as usize,
+            self.pages as usize,
+            self.bound as usize,
+            tally,
+        ) {
+            Ok(outcome) => outcome,
+            Err(_) => unreachable(),
+        }
+    }
+}
