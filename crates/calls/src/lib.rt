@@ -28,4 +28,5 @@ pub use check::Check;
 pub use counts::Counts;
 pub use phases::{Closed, First, Second, Verdict};
 pub use slip::{Returned, Slip};
+pub use stages::{Asking, Finding};
 pub use weighed::{Declined, Weighed};

@@ -1,0 +1,33 @@
+// The cards of a farm, one for each station.
+ghost use Rattle.std.specs.Prelude.{◌≡◌, ◌*◌, length, MatchResult};
+ghost use Rattle.refusal.specs.Rules.{Refused, Accepted};
+ghost use Rattle.scheme.specs.Farm;
+ghost use Rattle.desk.specs.Copies.{length_is, words_of};
+
+use field::Field;
+use refusal::Refusal;
+use station::Card;
+use tally::Farm;
+
+// Refuses the first position that is missing or surplus.
+pub(crate) fn accept_length(due: usize, count: usize) -> Result<(), Refusal>
+    ensures { MatchResult result (λ _. Accepted (length_is due count)) (Refused (length_is due count)) }
+{
+    if count != due {
+        return Err(Refusal::Garbled(due.min(count) + 1));
+    }
+    Ok(())
+}
+
+// The card of a station.
+pub(crate) fn card_of<'a, F: Field>(farm: &Farm<F>, words: &'a [u32], station: usize) -> Card<'a, F>
+    requires whole { length words.now ≡ farm.now.stations * farm.now.pages }
+    requires station { Farm.Station farm.now.stations station }
+    ensures { result.words.now ≡ words_of farm.now.pages words.now station }
+{
+    let start = (station - 1) * farm.pages;
+    match Card::new(&words[start..start + farm.pages]) {
+        Ok(card) => card,
+        Err(_) => unreachable(),
+    }
+}
