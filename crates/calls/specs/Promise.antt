@@ -3,7 +3,7 @@ use Rattle.std.specs.Prelude.{◌≡◌, ℕ, ◌+◌, ◌-◌, ◌*◌, ◌≤�
 use Rattle.field.specs.Field.{Ops, Laws, Spread}
 use Rattle.algebra.specs.Vectors.{Page}
 use Rattle.scheme.specs.Farm.{Table, Same, Majority, Decided, strays}
-use Rattle.scheme.specs.Askings.{first_sums, over, split, filled, asks}
+use Rattle.scheme.specs.Askings.{first_sums, over, asks}
 use Rattle.scheme.specs.Weighing.{Weighs}
 use Rattle.scheme.specs.Closing.{Reports}
 use Rattle.scheme.specs.Ending.{Comes, EndsSplit, EndsReport}
@@ -12,7 +12,6 @@ use Rattle.tally.specs.Listing.{Listed}
 use Rattle.calls.specs.declared.book.Book.{Book}
 use Rattle.calls.specs.declared.terms.Terms.{Terms}
 use Rattle.calls.specs.declared.slip.Returned.TheVariants.{Answered, Blank}
-use Rattle.calls.specs.declared.phases.Verdict.{Verdict}
 use Rattle.calls.specs.declared.phases.Verdict.TheVariants.{Report, Split, Over}
 use Rattle.calls.specs.Questions.{PlainTerms}
 use Rattle.calls.specs.Listing.{Listing}

@@ -15,7 +15,8 @@ impl<F: Field, P: Finding> Check<F, P> {
     pub fn list(&self, station: u32, tally: &[u32], out: &mut [u32]) -> Result<usize, Refusal>
         ensures { Listing.Listing self.now.book.terms (P.Finding.found self.now.phase) station tally.now out.old result out.new }
     {
-        self.book.list_pages(self.phase.found(), station, tally, out)
+        self.book
+            .list_pages(self.phase.found(), station, tally, out)
     }
 }
 

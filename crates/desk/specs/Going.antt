@@ -4,10 +4,12 @@ use Rattle.field.specs.Field.{Ops}
 use Rattle.scheme.specs.Askings.{first_sums, all_sums, Plain, asks}
 use Rattle.scheme.specs.Farm.{strays}
 use Rattle.scheme.specs.Weighing.{Weighs}
+use Rattle.tally.specs.Rows.{tally_size}
 use Rattle.calls.specs.declared.book.Book.{Book}
 use Rattle.calls.specs.declared.phases.Verdict.{Verdict}
 use Rattle.calls.specs.declared.standing.Standing.TheVariants.{Free, Done}
 use Rattle.calls.specs.Opening.{Opens, Stands}
+use Rattle.calls.specs.Questions.{FirstAsks}
 use Rattle.calls.specs.Runs.{Stage, first, closed, Call, Run}
 use Rattle.calls.specs.Slips.{standing}
 use Rattle.calls.specs.Steady.{copies, sums, Steady}
@@ -32,6 +34,8 @@ module _ (M N bound : ℕ) where
   pub record Going (f : Ops) (words before : List ℕ) (next : ℕ) (b : Book) (after : List ℕ) : Type 0 where
     pub so_far : Calls f M N bound words before b first after
     pub terms : Stands b.terms 1 M N bound
+    pub question : FirstAsks b.terms b.question
+    pub fits : tally_size M N ≤ length after
     pub heard : (s : ℕ) → 2 ≤ s → s < next → standing b s ≡ Done
     pub free : (s : ℕ) → next ≤ s → s ≤ M → standing b s ≡ Free
     pub handed : b.counts.handed ≡ next - 2
@@ -50,6 +54,8 @@ module _ (M N bound : ℕ) where
 
     -- the check closed with this verdict: by its calls, with so many sums taken, and as the promise says of every run
     pub record Checked (before : List ℕ) (b : Book) (v : Verdict) (after : List ℕ) : Type 0 where
+      pub terms : Stands b.terms 1 M N bound
+      pub fits : tally_size M N ≤ length after
       pub by_calls : Calls f M N bound words before b (closed v) after
       pub taken : Taken b.counts.taken
       pub judged : Judged f (cards f N words) b.terms after (closed v)

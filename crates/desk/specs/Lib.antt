@@ -1,3 +1,4 @@
 pub mod Copies
 pub mod Exchange
 pub mod Going
+pub mod Findings

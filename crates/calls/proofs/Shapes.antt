@@ -1,0 +1,28 @@
+-- The shape of a check at each stage of a run: what its question asks for, and whose replies are in.
+use Rattle.std.proofs.Common.{◌≡◌, ℕ, ◌≢◌}
+use Rattle.field.specs.Field.{Ops, page_limit}
+use Rattle.refusal.specs.Rules.{Within}
+use Rattle.calls.specs.declared.standing.Standing.TheVariants.{Done}
+use Rattle.calls.specs.declared.terms.Terms.{Terms}
+use Rattle.calls.specs.declared.question.Question.{Question}
+use Rattle.calls.specs.declared.book.Book.{Book}
+use Rattle.calls.specs.Questions.{PlainTerms, FirstAsks, SecondAsks}
+use Rattle.calls.specs.Slips.{standing}
+use Rattle.calls.specs.Runs.{Stage, first, second, closed}
+
+-- what the asking of a stage asks for
+abbrev pub StageAsks : Terms → Stage → Question → Type 0
+StageAsks t first q = FirstAsks t q
+StageAsks t (second k) q = (¬ PlainTerms t) × Within 2 t.stations k × SecondAsks t q
+StageAsks t (closed v) q = Unit {0}
+
+-- in the second asking all other replies are in
+abbrev pub OthersIn : Book → Stage → Type 0
+OthersIn b first = Unit {0}
+OthersIn b (second k) = (s : ℕ) → Within 2 b.terms.stations s → s ≢ k → standing b s ≡ Done
+OthersIn b (closed v) = Unit {0}
+
+pub record Shape (f : Ops) (b : Book) (g : Stage) : Type 0 where
+  pub pages : Within 1 (page_limit f) b.terms.pages
+  pub question : StageAsks b.terms g b.question
+  pub others : OthersIn b g

@@ -1,0 +1,156 @@
+-- What weighing and settling come to by what the tally tells is what they come to by what the stations hold.
+use Rattle.std.proofs.Common.{◌≡◌, ℕ, ◌<◌, List, sym, ap, ◌∙◌, subst, refl, ◌+◌, inl, inr, arith}
+use native.Mathlib.Decide.{ℕ_discrete, dec_le}
+use Rattle.field.specs.Field.{Ops, Laws, Spread, page_limit}
+use Rattle.field.specs.Sums.{entry, power_sum}
+use Rattle.algebra.specs.Vectors.{Page}
+use Rattle.refusal.specs.Rules.{Within}
+use Rattle.link.specs.declared.asked.Asked.TheVariants.{Sums, Signatures}
+use Rattle.scheme.specs.Farm.{Station, Same}
+use Rattle.scheme.specs.Askings.{first_sums, all_sums, Outcome, over, split, filled, asks}
+use Rattle.scheme.specs.Weighing.{Weighs}
+use Rattle.scheme.specs.Settling.{Settles}
+use Rattle.scheme.specs.Theorem.{Alike, same_station}
+use Rattle.scheme.specs.Ending.{Comes, Fills}
+use Rattle.scheme.proofs.Depends.{weighs_depends, settles_depends}
+use Rattle.scheme.proofs.AtMostOne.{one_outcome}
+use Rattle.tally.specs.Rows.{sum_in, signature_in}
+use Rattle.calls.specs.declared.standing.Standing.{Standing}
+use Rattle.calls.specs.declared.standing.Standing.TheVariants.{Done}
+use Rattle.calls.specs.declared.terms.Terms.{Terms}
+use Rattle.calls.specs.declared.question.Question.{Question}
+use Rattle.calls.specs.declared.phases.Verdict.{Verdict}
+use Rattle.calls.specs.declared.phases.Verdict.TheVariants.{Report, Split, Over}
+use Rattle.calls.specs.Standings.{standing_of}
+use Rattle.calls.specs.Questions.{PlainTerms}
+use Rattle.calls.specs.Closing.{WeighEnds, SettleEnds, Finds}
+use Rattle.calls.specs.Runs.{first, second, closed}
+use Rattle.calls.specs.Steady.{FarmHolds, copies, sums}
+use Rattle.calls.specs.Promise.{Judged}
+use Rattle.calls.proofs.ReplyInRow.{Tells, tells_as}
+use Rattle.calls.proofs.Told.{Told, FirstsTold}
+use Rattle.calls.proofs.SumsAsked.{firsts_among}
+use Rattle.calls.proofs.Shapes.{StageAsks}
+
+alike_asks : {M N i k : ℕ} → Alike M N (asks i) (asks k) → i ≡ k
+alike_asks same_station = refl
+
+module _ (f : Ops) (holds : ℕ → List ℕ) (t : Terms) where
+  -- what an outcome says of the farm
+  abbrev pub Truly : Outcome → Type 0
+  Truly over = Comes f t.stations t.pages t.bound (sums f t.pages holds) (sums f t.pages holds) (copies holds 1) over
+  Truly (split n) = Comes f t.stations t.pages t.bound (sums f t.pages holds) (sums f t.pages holds) (copies holds 1) (split n)
+  Truly (filled R) = Fills f t.stations t.pages t.bound (sums f t.pages holds) (sums f t.pages holds) (copies holds 1) (copies holds) R
+  Truly (asks k) = (¬ PlainTerms t) × Weighs f t.stations t.pages t.bound (sums f t.pages holds) (copies holds 1) (asks k)
+
+  -- a check that closes by true outcomes closes as the rules end
+  pub closes_judged : (Ends : Outcome → Type 0) → ((o : Outcome) → Ends o → Truly o) → (before after : List ℕ) (v : Verdict)
+      → Finds Ends t.stations t.pages before after v → Judged f holds t after (closed v)
+  closes_judged Ends true before after Over x = true over x.0
+  closes_judged Ends true before after (Split n) (inl x) = inl (true (split n) x.0)
+  closes_judged Ends true before after (Split n) (inr x) = inr (x.0, true (filled x.0) x.1, x.3)
+  closes_judged Ends true before after Report x = (x.0, (true (filled x.0) x.1, x.3), x.2.rows)
+
+  module _ (farm : FarmHolds f t.stations t.pages holds) (tally : List ℕ) where
+    -- a sum that is told is the station's
+    told_sum : (s from to j : ℕ) → Station t.stations s → Tells f (holds s) t.pages tally Sums s from to → Within from to j
+        → sum_in tally t.pages s j ≡ sums f t.pages holds s j
+    told_sum s from to j a tells w = tells j w ∙ ap (λ n. power_sum f n (entry (holds s)) j) (farm.pages s a)
+
+    module _ (own : Tells f (holds 1) t.pages tally Signatures 1 1 t.pages) (own_sums : Tells f (holds 1) t.pages tally Sums 1 1 (all_sums t.pages t.bound)) where
+      own_row : (n : ℕ) → Page t.pages n → signature_in tally t.pages 1 n ≡ copies holds 1 n
+      own_row n p = own n p
+
+      module _ (not : ¬ PlainTerms t) (k : ℕ) (firsts : FirstsTold f holds t (second k) tally) where
+        first_sums_told : (s j : ℕ) → Station t.stations s → Page (first_sums t.stations t.bound) j → sum_in tally t.pages s j ≡ sums f t.pages holds s j
+        first_sums_told s j a p = elim (ℕ_discrete s 1) [
+          | yes e ↦
+              let le = firsts_among t.stations t.pages t.bound t.stations_in.0 t.bound_in.0 not in
+              subst (λ s. sum_in tally t.pages s j ≡ sums f t.pages holds s j) (sym e)
+              (told_sum 1 1 (all_sums t.pages t.bound) j (omega (arith, t.stations_in.0)) own_sums (omega arith))
+          | no d ↦ told_sum s 1 (first_sums t.stations t.bound) j a (firsts s (omega arith)) (omega arith)
+        ]
+
+        true_weighs : (o : Outcome) → Weighs f t.stations t.pages t.bound (sum_in tally t.pages) (signature_in tally t.pages 1) o
+            → Weighs f t.stations t.pages t.bound (sums f t.pages holds) (copies holds 1) o
+        true_weighs =
+            weighs_depends f t.stations t.pages t.bound (sum_in tally t.pages) (sums f t.pages holds) (signature_in tally t.pages 1) (copies holds 1)
+            first_sums_told own_row
+
+  -- ── weighing
+  module _ (farm : FarmHolds f t.stations t.pages holds) (q : Question) (xs : List Standing) (tally : List ℕ) where
+    -- all have told the first sums, or all signatures in a plain check
+    pub firsts_told : StageAsks t first q → Told f holds t q xs first tally → ((s : ℕ) → Within 2 t.stations s → standing_of xs s ≡ Done)
+        → ¬ PlainTerms t → (k : ℕ) → FirstsTold f holds t (second k) tally
+    firsts_told (inl (plain, about)) told done not k s w = absurd (not plain)
+    firsts_told (inr (_, about)) told done not k s w =
+        tells_as f (holds s) t.pages tally q.asked Sums s q.first q.last 1 (first_sums t.stations t.bound) about.0 about.1 about.2
+        (told.replies s w tt (inr (done s w)))
+
+    rows_told : StageAsks t first q → Told f holds t q xs first tally → ((s : ℕ) → Within 2 t.stations s → standing_of xs s ≡ Done)
+        → PlainTerms t → Same t.stations t.pages (signature_in tally t.pages) (copies holds)
+    rows_told (inl (_, about)) told done plain s n c p = elim (ℕ_discrete s 1) [
+      | yes e ↦ subst (λ s. signature_in tally t.pages s n ≡ copies holds s n) (sym e) (told.own n p)
+      | no d ↦
+          tells_as f (holds s) t.pages tally q.asked Signatures s q.first q.last 1 t.pages about.0 about.1 about.2
+          (told.replies s (omega arith) tt (inr (done s (omega arith)))) n p
+    ]
+    rows_told (inr (not, about)) told done plain s n c p = absurd (not plain)
+
+    module _ (a : StageAsks t first q) (told : Told f holds t q xs first tally) (done : (s : ℕ) → Within 2 t.stations s → standing_of xs s ≡ Done) where
+      first_weighs : ¬ PlainTerms t → (o : Outcome) → Weighs f t.stations t.pages t.bound (sum_in tally t.pages) (signature_in tally t.pages 1) o
+          → Weighs f t.stations t.pages t.bound (sums f t.pages holds) (copies holds 1) o
+      first_weighs not = true_weighs farm tally told.own told.own_sums not 0 (firsts_told a told done not 0)
+
+      pub weigh_true : (o : Outcome) → WeighEnds f t tally o → Truly o
+      weigh_true o (inl x) = subst Truly (sym x.1) (inl (x.2, λ s n c p. x.3 s n c p ∙ rows_told a told done x.2 s n c p))
+      weigh_true over (inr (not, w)) = (not, inl (first_weighs not over w))
+      weigh_true (split n) (inr (not, w)) = (not, inl (first_weighs not (split n) w))
+      weigh_true (filled R) (inr (not, w)) = inr (not, inl (first_weighs not (filled R) w))
+      weigh_true (asks k) (inr (not, w)) = (not, first_weighs not (asks k) w)
+
+    -- ── settling
+    module _ (l : Laws f) (spread : Spread f) (pages : Within 1 (page_limit f) t.pages) (k : ℕ) (a : StageAsks t (second k) q)
+        (judged : Judged f holds t tally (second k)) (told : Told f holds t q xs (second k) tally) (done : standing_of xs k ≡ Done) where
+      weighs : (o : Outcome) → Weighs f t.stations t.pages t.bound (sum_in tally t.pages) (signature_in tally t.pages 1) o
+          → Weighs f t.stations t.pages t.bound (sums f t.pages holds) (copies holds 1) o
+      weighs = true_weighs farm tally told.own told.own_sums a.0 k told.firsts
+
+      -- station k has told all sums
+      all_told : (j : ℕ) → Page (all_sums t.pages t.bound) j → sum_in tally t.pages k j ≡ sums f t.pages holds k j
+      all_told j p = elim (dec_le j (first_sums t.stations t.bound)) [
+        | yes le ↦ told_sum farm tally k 1 (first_sums t.stations t.bound) j (omega arith) (told.firsts k a.1) (omega arith)
+        | no late ↦
+            told_sum farm tally k (first_sums t.stations t.bound + 1) (all_sums t.pages t.bound) j (omega arith)
+            (tells_as f (holds k) t.pages tally q.asked Sums k q.first q.last (first_sums t.stations t.bound + 1) (all_sums t.pages t.bound) a.2.0 a.2.1 a.2.2
+            (told.replies k a.1 refl (inr done))) (omega arith)
+      ]
+
+      -- nobody else is asked again
+      asked_one : (i : ℕ) → Weighs f t.stations t.pages t.bound (sum_in tally t.pages) (signature_in tally t.pages 1) (asks i) → i ≡ k
+      asked_one i w =
+          alike_asks ((one_outcome f l spread t.stations t.pages t.bound (omega (arith, pages.1)) (sums f t.pages holds) (sums f t.pages holds) (copies holds 1)
+          (asks i) (asks k)).0 (weighs (asks i) w) judged.1)
+
+      more : Weighs f t.stations t.pages t.bound (sums f t.pages holds) (copies holds 1) (asks k) → t.stations ≡ 3
+          → first_sums 3 t.bound < all_sums t.pages t.bound
+      more (inl x) three = absurd (omega (arith, x.0))
+      more (inr x) three = x.1.0
+
+      settles : (o : Outcome) → Settles f t.stations t.pages t.bound (sum_in tally t.pages) (sum_in tally t.pages) (signature_in tally t.pages 1) o
+          → Settles f t.stations t.pages t.bound (sums f t.pages holds) (sums f t.pages holds) (copies holds 1) o
+      settles =
+          settles_depends f t.stations t.pages t.bound (sum_in tally t.pages) (sums f t.pages holds) (signature_in tally t.pages 1) (copies holds 1)
+          (first_sums_told farm tally told.own told.own_sums a.0 k told.firsts) (own_row farm tally told.own told.own_sums) (more judged.1)
+          (sum_in tally t.pages) (sums f t.pages holds)
+          (λ j p. told_sum farm tally 1 1 (all_sums t.pages t.bound) j (omega (arith, t.stations_in.0)) told.own_sums (omega arith))
+          (λ i j w p. subst (λ i. sum_in tally t.pages i j ≡ sums f t.pages holds i j) (sym (asked_one i w)) (all_told j p))
+
+      pub settle_true : (o : Outcome) → SettleEnds f t tally o → Truly o
+      settle_true over (inl w) = (a.0, inl (weighs over w))
+      settle_true over (inr x) = (a.0, inr ((k, judged.1), settles over x))
+      settle_true (split n) (inl w) = (a.0, inl (weighs (split n) w))
+      settle_true (split n) (inr x) = (a.0, inr ((k, judged.1), settles (split n) x))
+      settle_true (filled R) (inl w) = inr (a.0, inl (weighs (filled R) w))
+      settle_true (filled R) (inr x) = inr (a.0, inr ((k, judged.1), settles (filled R) x))
+      settle_true (asks i) x = absurd x
