@@ -98,7 +98,7 @@ module _ (f : Ops) (holds : ℕ → List ℕ) (t : Terms) where
     rows_told (inr (not, about)) told done plain s n c p = absurd (not plain)
 
     module _ (a : StageAsks t first q) (told : Told f holds t q xs first tally) (done : (s : ℕ) → Within 2 t.stations s → standing_of xs s ≡ Done) where
-      first_weighs : ¬ PlainTerms t → (o : Outcome) → Weighs f t.stations t.pages t.bound (sum_in tally t.pages) (signature_in tally t.pages 1) o
+      pub first_weighs : ¬ PlainTerms t → (o : Outcome) → Weighs f t.stations t.pages t.bound (sum_in tally t.pages) (signature_in tally t.pages 1) o
           → Weighs f t.stations t.pages t.bound (sums f t.pages holds) (copies holds 1) o
       first_weighs not = true_weighs farm tally told.own told.own_sums not 0 (firsts_told a told done not 0)
 

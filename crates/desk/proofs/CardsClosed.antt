@@ -1,0 +1,207 @@
+-- How a check of cards ends: by weighing, or by one more exchange and settling.
+use Rattle.std.proofs.Common.{◌≡◌, ℕ, suc, ◌+◌, ◌-◌, ◌*◌, ◌≤◌, ◌<◌, ◌≢◌, ◌⊎◌, List, ◌∷◌, length, Option, Some, None, inl, inr, sym, refl, ap, ap₂, ◌∙◌, subst, set, get_or-set_same, arith}
+use Rattle.field.specs.Field.{Ops, Laws, Spread}
+use Rattle.refusal.specs.Rules.{Within}
+use Rattle.link.specs.declared.asked.Asked.TheVariants.{Sums, Signatures}
+use Rattle.link.specs.Requests.{values_due}
+use Rattle.scheme.specs.Askings.{first_sums, all_sums, Plain, Outcome, over, split, filled, asks}
+use Rattle.scheme.specs.Farm.{strays}
+use Rattle.scheme.specs.Weighing.{Weighs}
+use Rattle.calls.specs.Standings.{standing_of}
+use Rattle.station.specs.Serving.{index_limit}
+use Rattle.tally.specs.Rows.{tally_size}
+use Rattle.calls.specs.declared.book.Book.{Book}
+use Rattle.calls.specs.declared.phases.Verdict.{Verdict}
+use Rattle.calls.specs.declared.phases.Verdict.TheVariants.{Report, Split, Over}
+use Rattle.calls.specs.declared.standing.Standing.TheVariants.{Free, Done}
+use Rattle.calls.specs.Questions.{FirstAsks, SecondAsks, PlainTerms}
+use Rattle.calls.specs.Opening.{Stands}
+use Rattle.calls.specs.Closing.{WeighCloses, WeighAsks, WeighEnds, SettleEnds, SettleCloses, Finds}
+use Rattle.calls.specs.Slips.{standing}
+use Rattle.calls.specs.Runs.{Stage, first, second, closed, Call, weigh, settle, Run, called, weigh_closes, weigh_asks, settle_closes}
+use Rattle.calls.specs.Steady.{copies, sums, Steady, FarmHolds}
+use Rattle.calls.specs.Promise.{Judged, Right, EveryRun}
+use Rattle.desk.specs.Copies.{words_of, cards}
+use Rattle.desk.specs.Exchange.{Ready, Exchange}
+use Rattle.desk.specs.Going.{Calls, Going, FirstDue, AsksAgain, Taken, Checked}
+use Rattle.calls.proofs.Shapes.{Shape}
+use Rattle.calls.proofs.ShapesKept.{shape_kept, all_done}
+use Rattle.scheme.specs.Theorem.{Alike, same_station}
+use Rattle.scheme.proofs.AtMostOne.{one_outcome}
+use Rattle.calls.proofs.TrueEnds.{first_weighs}
+use Rattle.calls.proofs.StepsTold.{told_judged}
+use Rattle.desk.proofs.Asked.{by_terms, sums_left}
+use Rattle.desk.proofs.CardsHeld.{card_size, cards_held}
+use Rattle.desk.proofs.Exchanged.{three_calls, terms_kept, question_kept, size_kept, station_is, handed_more, taken_more, run_longer, steady_longer}
+
+-- what the promise says of calls on a check of cards
+module _ (f : Ops) (laws : Laws f) (spread : Spread f) (promise : EveryRun) (M N bound : ℕ) (words before : List ℕ) (whole : length words ≡ M * N)
+    (b : Book) (g : Stage) (after : List ℕ) (stands : Stands b.terms 1 M N bound) (calls : Calls f M N bound words before b g after) where
+  held : FarmHolds f b.terms.stations b.terms.pages (cards f N words)
+  held = by_terms (λ M' N' bound'. FarmHolds f M' N' (cards f N words) → FarmHolds f b.terms.stations b.terms.pages (cards f N words)) b.terms 1 M N bound stands (λ h. h) (cards_held f M N words whole laws)
+
+  pub judged_right : Judged f (cards f N words) b.terms after g
+      × (Plain M N bound ⊎ (strays M (copies (cards f N words)) N ≤ bound) → Right (cards f N words) b.terms after g)
+  judged_right =
+      let r = (promise f laws spread (cards f N words 1) calls.opened calls.calls b g calls.run).1 (cards f N words) after held calls.steady in
+      (r.0, λ given. r.1 (by_terms (λ M' N' bound'. Plain M' N' bound' ⊎ (strays M' (copies (cards f N words)) N' ≤ bound') → PlainTerms b.terms ⊎ (strays b.terms.stations (copies (cards f N words)) b.terms.pages ≤ b.terms.bound))
+      b.terms 1 M N bound stands (λ h. h) given))
+
+-- a check closes by an outcome that asks nobody
+closing_outcome : (Ends : Outcome → Type 0) (M N : ℕ) (before after : List ℕ) (v : Verdict) → Finds Ends M N before after v → (o : Outcome) × Ends o × ((k : ℕ) → o ≢ asks k)
+closing_outcome Ends M N before after Over x = (over, x.0, λ k e. cc)
+closing_outcome Ends M N before after (Split n) (inl x) = (split n, x.0, λ k e. cc)
+closing_outcome Ends M N before after (Split n) (inr x) = (filled x.0, x.1, λ k e. cc)
+closing_outcome Ends M N before after Report x = (filled x.0, x.1, λ k e. cc)
+
+alike_asks : {M N k : ℕ} (o : Outcome) → Alike M N o (asks k) → o ≡ asks k
+alike_asks o same_station = refl
+
+-- closing keeps the tally's length
+finds_size : (Ends : Outcome → Type 0) (M N : ℕ) (before after : List ℕ) (v : Verdict) → Finds Ends M N before after v → length after ≡ length before
+finds_size Ends M N before after Over x = ap length x.1
+finds_size Ends M N before after (Split n) (inl x) = ap length x.1
+finds_size Ends M N before after (Split n) (inr x) = x.2.size
+finds_size Ends M N before after Report x = x.2.size
+
+module _ (f : Ops) (laws : Laws f) (spread : Spread f) (promise : EveryRun) (M N bound : ℕ) (words : List ℕ) (whole : length words ≡ M * N)
+    (b : Book) (tally : List ℕ) where
+  module _ (before : List ℕ) (going : Going M N bound f words before (M + 1) b tally) where
+    -- what the first asking asks for
+    first_asked : (d : ℕ) × FirstDue M N bound d
+    first_asked = by_terms (λ M N bound. (d : ℕ) × FirstDue M N bound d) b.terms 1 M N bound going.terms (elim going.question [
+      | inl x ↦ (b.terms.pages, inl (x.0, refl))
+      | inr x ↦ (first_sums b.terms.stations b.terms.bound, inr (x.0, refl))
+    ])
+
+    all_taken : b.counts.taken ≡ (M - 1) * first_asked.0
+    all_taken = going.due first_asked.0 first_asked.1 ∙ ap (λ k. k * first_asked.0) (let e : M + 1 - 2 ≡ M - 1 = omega arith in e)
+
+    module _ (v : Verdict) (b' : Book) (after : List ℕ) (w : WeighCloses f b tally v b' after) where
+      calls_weighed : Calls f M N bound words before b' (closed v) after
+      calls_weighed =
+          let so = going.so_far in
+          record {
+            start = so.start;
+            opened = so.opened;
+            calls = weigh tally after ∷ so.calls;
+            opens = so.opens;
+            run = called so.run (weigh_closes w);
+            steady = (refl, so.steady);
+          }
+
+      nobody_again : ¬ AsksAgain M N bound f words
+      nobody_again again =
+          let so = going.so_far in
+          let held = by_terms (λ M' N' bound'. FarmHolds f M' N' (cards f N words) → FarmHolds f b.terms.stations b.terms.pages (cards f N words)) b.terms 1 M N bound going.terms (λ h. h) (cards_held f M N words whole laws) in
+          let told = (told_judged f laws spread (cards f N words) (cards f N words 1) so.opened so.calls b first so.run held tally so.steady).0 in
+          let shape = shape_kept f laws spread (cards f N words 1) so.opened so.calls b first so.run in
+          let o = closing_outcome (WeighEnds f b.terms tally) b.terms.stations b.terms.pages tally after v w.finds in
+          let there : (¬ PlainTerms b.terms) × ((k : ℕ) × Weighs f b.terms.stations b.terms.pages b.terms.bound (sums f b.terms.pages (cards f N words)) (copies (cards f N words) 1) (asks k))
+              = by_terms (λ M' N' bound'. (¬ Plain M' N' bound') × ((k : ℕ) × Weighs f M' N' bound' (sums f N' (cards f N words)) (copies (cards f N words) 1) (asks k))
+              → (¬ PlainTerms b.terms) × ((k : ℕ) × Weighs f b.terms.stations b.terms.pages b.terms.bound (sums f b.terms.pages (cards f N words)) (copies (cards f N words) 1) (asks k))) b.terms 1 M N bound going.terms (λ a. a) again in
+          elim o.1 [
+            | inl hand ↦ there.0 hand.2
+            | inr x ↦
+                o.2 there.1.0 (alike_asks o.0 ((one_outcome f laws spread b.terms.stations b.terms.pages b.terms.bound (omega (arith, shape.pages)) (sums f b.terms.pages (cards f N words))
+                (sums f b.terms.pages (cards f N words)) (copies (cards f N words) 1) o.0 (asks there.1.0)).0
+                (first_weighs f (cards f N words) b.terms held b.question b.standings tally shape.question told
+                (all_done b (length tally) w.accepted) x.0 o.0 x.1) there.1.1))
+          ]
+
+      pub by_weighing : Checked M N bound f words before b' v after
+      by_weighing =
+          let r = judged_right f laws spread promise M N bound words before whole b' (closed v) after (subst (λ (b : Book). Stands b.terms 1 M N bound) (sym w.book) going.terms) calls_weighed in
+          record {
+            terms = subst (λ (b : Book). Stands b.terms 1 M N bound) (sym w.book) going.terms;
+            fits = omega (arith, going.fits, finds_size (WeighEnds f b.terms tally) b.terms.stations b.terms.pages tally after v w.finds);
+            by_calls = calls_weighed;
+            taken = (first_asked.0, first_asked.1, inr (nobody_again, ap (λ (b : Book). b.counts.taken) w.book ∙ all_taken));
+            judged = r.0;
+            right = r.1;
+          }
+
+    -- a station is asked again, and its slip is the next
+    module _ (k : ℕ) (b' : Book) (asked : List ℕ) (w : WeighAsks f b tally k b' asked) where
+      stands_again : Stands b'.terms 1 M N bound
+      stands_again = subst (λ t. Stands t 1 M N bound) (sym w.again.terms) going.terms
+
+      calls_asked : Calls f M N bound words before b' (second k) asked
+      calls_asked =
+          let so = going.so_far in
+          record {
+            start = so.start;
+            opened = so.opened;
+            calls = weigh tally asked ∷ so.calls;
+            opens = so.opens;
+            run = called so.run (weigh_asks w);
+            steady = (refl, so.steady);
+          }
+
+      shape : Shape f b' (second k)
+      shape = shape_kept f laws spread (cards f N words 1) calls_asked.opened calls_asked.calls b' (second k) calls_asked.run
+
+      pub one_of : Within 2 M k
+      one_of = subst (λ M. Within 2 M k) stands_again.1 shape.question.1
+
+      again : AsksAgain M N bound f words
+      again = by_terms (λ M N' bound. (¬ Plain M N' bound) × ((k : ℕ) × Weighs f M N' bound (sums f N' (cards f N words)) (copies (cards f N words) 1) (asks k))) b'.terms 1 M N bound stands_again
+          (let r = (judged_right f laws spread promise M N bound words before whole b' (second k) asked stands_again calls_asked).0 in (r.0, (k, r.1)))
+
+      more : first_sums M bound < all_sums N bound
+      more = sums_left f M N bound (sums f N (cards f N words)) (copies (cards f N words) 1) again.1.0 (omega (arith, going.terms.3, b.terms.bound_in)) again.0 again.1.1
+
+      second_from : b'.question.first ≡ first_sums M bound + 1
+      second_from = w.again.question.1 ∙ by_terms (λ M' N' bound'. first_sums b.terms.stations b.terms.bound + 1 ≡ first_sums M' bound' + 1) b.terms 1 M N bound going.terms refl
+
+      second_to : b'.question.last ≡ all_sums N bound
+      second_to = w.again.question.2 ∙ by_terms (λ M' N' bound'. all_sums b.terms.pages b.terms.bound ≡ all_sums N' bound') b.terms 1 M N bound going.terms refl
+
+      second_short : b'.question.last ≤ 128
+      second_short = omega (arith, second_to, going.terms.3, b.terms.bound_in)
+
+      pub second_ready : (row : List ℕ) → Ready row (Some k) k b' (length asked)
+      second_ready row = record {
+        station = omega (arith, one_of, stands_again.1);
+        concerned = refl;
+        free = ap (λ xs. standing_of xs k) w.again.standings ∙ get_or-set_same b.standings k Free Free (omega (arith, one_of, b.full, going.terms.1, b.terms.stations_in));
+        few = omega (arith, ap (λ c. c.handed) w.again.counts, going.handed, going.terms.1, b.terms.stations_in);
+        rising = omega (arith, more, second_from, second_to);
+        answered = subst (λ asked. b'.question.last ≤ index_limit asked row) (sym w.again.question.0) second_short;
+        short = second_short;
+        fits = omega (arith, going.fits, by_terms (λ M N bound. tally_size b'.terms.stations b'.terms.pages ≡ tally_size M N) b'.terms 1 M N bound stands_again refl, ap length w.written);
+      }
+
+      module _ (e : Book) (told : List ℕ) (x : Exchange f (cards f N words k) (Some k) k b' asked e told) (v : Verdict) (d : Book) (after : List ℕ)
+          (s : SettleCloses f e told v d after) where
+        calls_settled : Calls f M N bound words before d (closed v) after
+        calls_settled =
+            let so = calls_asked in
+            record {
+              start = so.start;
+              opened = so.opened;
+              calls = settle told after ∷ three_calls x so.calls;
+              opens = so.opens;
+              run = called (run_longer x (cards f N words 1) so.opened so.calls refl so.run) (settle_closes s);
+              steady = (refl, steady_longer x (cards f N words 1) so.opened so.calls (cards f N words) refl so.steady);
+            }
+
+        rest_taken : d.counts.taken ≡ (M - 1) * first_asked.0 + (all_sums N bound - first_sums M bound)
+        rest_taken =
+            ap (λ (b : Book). b.counts.taken) s.book ∙ taken_more x
+            ∙ ap₂ ◌+◌ (ap (λ c. c.taken) w.again.counts ∙ all_taken)
+            (let from = x.slips.1.request.3 in let to = x.slips.1.request.4 in
+            let r : suc x.slip.request.last - x.slip.request.first ≡ all_sums N bound - first_sums M bound = omega (arith, from, to, second_from, second_to) in r)
+
+        pub by_settling : Checked M N bound f words before d v after
+        by_settling =
+            let r = judged_right f laws spread promise M N bound words before whole d (closed v) after
+                    (subst (λ (b : Book). Stands b.terms 1 M N bound) (sym s.book) (subst (λ t. Stands t 1 M N bound) (sym (terms_kept x)) stands_again)) calls_settled in
+            record {
+              terms = subst (λ (b : Book). Stands b.terms 1 M N bound) (sym s.book) (subst (λ t. Stands t 1 M N bound) (sym (terms_kept x)) stands_again);
+              fits = omega (arith, going.fits, ap length w.written, size_kept x, finds_size (SettleEnds f e.terms told) e.terms.stations e.terms.pages told after v s.finds);
+              by_calls = calls_settled;
+              taken = (first_asked.0, first_asked.1, inl (again, rest_taken));
+              judged = r.0;
+              right = r.1;
+            }

@@ -1,0 +1,70 @@
+-- What an exchange with a station leaves: its reply is in, the counts are one slip further, and the run is three calls longer.
+use Rattle.std.proofs.Common.{◌≡◌, ℕ, ◌+◌, ◌<◌, ◌≢◌, List, ◌∷◌, length, Ok, Option, sym, refl, ap, ◌∙◌, subst, set, arith, length-set, get_or-set_other, get_or-set_same}
+use Rattle.field.specs.Field.{Ops}
+use Rattle.link.specs.Reading.{reply_words}
+use Rattle.link.specs.Requests.{values_due}
+use Rattle.station.specs.Serving.{answers}
+use Rattle.calls.specs.declared.book.Book.{Book}
+use Rattle.calls.specs.declared.standing.Standing.{Standing}
+use Rattle.calls.specs.declared.standing.Standing.TheVariants.{Free, Out, Heard, Done}
+use Rattle.calls.specs.declared.slip.Returned.TheVariants.{Answered}
+use Rattle.calls.specs.Standings.{standing_of}
+use Rattle.calls.specs.Slips.{standing, Keeps}
+use Rattle.calls.specs.Runs.{Stage, Call, slip, take, return, AsksOnly, Run, called, slips, takes, returns}
+use Rattle.calls.specs.Steady.{Steady}
+use Rattle.desk.specs.Exchange.{Ready, Exchange}
+
+module _ {f : Ops} {row : List ℕ} {only : Option ℕ} {s : ℕ} {b : Book} {before : List ℕ} {b' : Book} {after : List ℕ}
+    (x : Exchange f row only s b before b' after) where
+  pub terms_kept : b'.terms ≡ b.terms
+  terms_kept = x.returns.1.keeps.terms ∙ x.takes.1.keeps.terms ∙ x.slips.1.keeps.terms
+
+  pub question_kept : b'.question ≡ b.question
+  question_kept = x.returns.1.keeps.question ∙ x.takes.1.keeps.question ∙ x.slips.1.keeps.question
+
+  pub size_kept : length after ≡ length before
+  size_kept = x.takes.1.entered.size
+
+  -- the slip's request names the station
+  pub station_is : x.slip.request.station ≡ s
+  station_is = x.slips.1.request.1
+
+  pub handed_more : b'.counts.handed ≡ b.counts.handed + 1
+  handed_more = ap (λ c. c.handed) (x.returns.1.counts) ∙ ap (λ c. c.handed) (x.takes.1.counts) ∙ ap (λ c. c.handed) (x.slips.1.counts)
+
+  pub taken_more : b'.counts.taken ≡ b.counts.taken + values_due x.slip.request
+  taken_more =
+      ap (λ c. c.taken) (x.returns.1.counts) ∙ ap (λ c. c.taken) (x.takes.1.counts)
+      ∙ ap (λ n. x.handed.counts.taken + n) x.takes.1.reply.count ∙ ap (λ c. c.taken + values_due x.slip.request) (x.slips.1.counts)
+
+  inside : x.slip.request.station < length x.taken.standings
+  inside = let within = x.slips.0.1.0 in omega (arith, x.taken.full, b.terms.stations_in, within, station_is)
+
+  pub heard : standing b' s ≡ Done
+  heard =
+      ap (standing b') (sym station_is) ∙ ap (λ ys. standing_of ys x.slip.request.station) x.returns.1.standings
+      ∙ get_or-set_same x.taken.standings x.slip.request.station Done Free inside
+
+  pub others_stay : (t : ℕ) → t ≢ s → standing b' t ≡ standing b t
+  others_stay t d =
+      let off : t ≢ x.slip.request.station = λ e. d (e ∙ station_is) in
+      ap (λ ys. standing_of ys t) x.returns.1.standings ∙ get_or-set_other x.taken.standings x.slip.request.station t Done Free off
+      ∙ ap (λ ys. standing_of ys t) x.takes.1.standings ∙ get_or-set_other x.handed.standings x.slip.request.station t Heard Free off
+      ∙ ap (λ ys. standing_of ys t) x.slips.1.standings ∙ get_or-set_other b.standings s t Out Free d
+
+  -- the three calls, the newest first
+  abbrev pub three_calls : List Call → List Call
+  three_calls ks =
+      return x.slip (Ok Answered) ∷ take x.slip x.reply before (Ok _) after ∷ slip s x.blank (Ok x.slip) x.request ∷ ks
+
+  module _ (own opened : List ℕ) (ks : List Call) where
+    pub run_longer : {g : Stage} → AsksOnly g only → Run f own opened ks b g → Run f own opened (three_calls ks) b' g
+    run_longer asks run =
+        called (called (called run (slips only asks x.slips)) (takes only asks x.takes)) (returns x.returns)
+
+    pub steady_longer : (holds : ℕ → List ℕ) → holds s ≡ row → Steady f holds own opened ks before → Steady f holds own opened (three_calls ks) after
+    steady_longer holds is steady = (
+      x.replies ∙ ap (λ row. reply_words x.slip.request (answers f row x.slip.request)) (sym (ap holds station_is ∙ is)),
+      refl,
+      steady,
+    )

@@ -1,0 +1,87 @@
+-- A ready exchange is refused nowhere, and its slip comes back answered.
+use Rattle.std.proofs.Common.{◌≡◌, ℕ, suc, ◌+◌, ◌-◌, ◌≤◌, ◌<◌, ◌++◌, List, length, drop, Option, Ok, Err, inl, inr, sym, refl, ap, ap₂, ◌∙◌, subst, set, get_or-set_same, append-nil, arith}
+use Rattle.std.proofs.Math.ListN.{drop_of_length-le}
+use Rattle.field.specs.Field.{Ops, Laws}
+use Rattle.field.specs.Sums.{entry}
+use Rattle.refusal.specs.declared.Refusal.{Refusal}
+use Rattle.refusal.specs.Numbers.{place}
+use Rattle.refusal.specs.Rules.{Within, Refused, Accepted}
+use Rattle.link.specs.declared.request.Request.{Request}
+use Rattle.link.specs.Requests.{Holds, request_words, values_due}
+use Rattle.link.specs.Reading.{reading_reply, reply_words}
+use Rattle.station.specs.Serving.{answers, InRange, index_limit, EndsAgree}
+use Rattle.tally.specs.Rows.{tally_size}
+use Rattle.calls.specs.declared.book.Book.{Book}
+use Rattle.calls.specs.declared.slip.Slip.{Slip}
+use Rattle.calls.specs.declared.slip.Returned.{Returned}
+use Rattle.calls.specs.declared.slip.Returned.TheVariants.{Answered, Blank}
+use Rattle.calls.specs.declared.standing.Standing.{Standing}
+use Rattle.calls.specs.declared.standing.Standing.TheVariants.{Free, Out, Heard, Done}
+use Rattle.calls.specs.Standings.{standing_of, SlipOut}
+use Rattle.calls.specs.Slips.{slipping, taking, returning, Slips, Takes, TakesIn, Returns, Asks, OutHere, HandsOut, standing, returned_as}
+use Rattle.desk.specs.Exchange.{Ready, Exchange}
+use Rattle.calls.proofs.StandingsSet.{not_free, not_done}
+
+module _ {row : List ℕ} {only : Option ℕ} {s : ℕ} {b : Book} {room : ℕ} (r : Ready row only s b room) where
+  pub slips_ready : (e : Refusal) → Refused (slipping b only s 4) e → ⊥
+  slips_ready e (inl x) = x.0 (omega arith)
+  slips_ready e (inr (_, inl x)) = x.0 r.station
+  slips_ready e (inr (_, inr (_, inl x))) = x.0 r.concerned
+  slips_ready e (inr (_, inr (_, inr (_, inl x)))) = not_free (standing b s) x.0 r.free
+  slips_ready e (inr (_, inr (_, inr (_, inr (_, inl x))))) = absurd (let a = x.0 in let f = r.free in cc)
+  slips_ready e (inr (_, inr (_, inr (_, inr (_, inr (_, inl x)))))) = x.0 r.few
+  slips_ready e (inr (_, inr (_, inr (_, inr (_, inr (_, inr x)))))) = x.1
+
+  module _ {slip : Slip} {b1 : Book} {blank request : List ℕ} (out : HandsOut b s blank slip b1 request) where
+    pub words_written : length blank ≡ 4 → request ≡ request_words slip.request
+    words_written four = out.written ∙ ap (λ xs. request_words slip.request ++ xs) (let le : length blank ≤ 4 = omega (arith, four) in drop_of_length-le blank {i = 4} le)
+
+    pub station_named : slip.request.station ≡ s
+    station_named = out.request.1
+
+    pub in_range : InRange row slip.request
+    in_range = (
+      (omega (arith, out.request, b.question.first_in), omega (arith, out.request, r.rising)),
+      subst (λ asked. slip.request.last ≤ index_limit asked row) (sym out.request.2) (omega (arith, out.request, r.answered)),
+    )
+
+    pub fits_reply : 4 + values_due slip.request ≤ 132
+    fits_reply = omega (arith, out.request, r.short, b.question.first_in)
+
+    asks_here : (b' : Book) → b'.terms ≡ b.terms → b'.question ≡ b.question → Asks b' slip.request.station slip.request
+    asks_here b' t q = (
+      out.request.0 ∙ sym (ap (λ t. t.number) t),
+      refl,
+      out.request.2 ∙ sym (ap (λ q. q.asked) q),
+      out.request.3 ∙ sym (ap (λ q. q.first) q),
+      out.request.4 ∙ sym (ap (λ q. q.last) q),
+    )
+
+    stands_out : standing b1 slip.request.station ≡ Out
+    stands_out = ap (standing b1) station_named ∙ ap (λ xs. standing_of xs s) out.standings ∙ get_or-set_same b.standings s Out Free (omega (arith, r.station, b.full, b.terms.stations_in))
+
+    module _ (f : Ops) (laws : Laws f) (agree : EndsAgree) (codes : (k : ℕ) → entry row k < f.size) (words : List ℕ)
+        (told : words ≡ reply_words slip.request (answers f row slip.request)) where
+      pub takes_ready : (e : Refusal) → Refused (taking f b1 slip.request words room) e → ⊥
+      takes_ready e (inl x) = x.0 (subst (λ t. tally_size t.stations t.pages ≤ room) (sym out.keeps.terms) r.fits)
+      takes_ready e (inr (_, inl x)) = x.0 (asks_here b1 out.keeps.terms out.keeps.question, inl stands_out)
+      takes_ready e (inr (_, inr (_, inl x))) = absurd (let a = x.0 in let f = stands_out in cc)
+      takes_ready e (inr (_, inr (_, inr (_, read)))) =
+          let clear = subst (λ ws. Accepted (reading_reply f slip.request ws)) (sym told) (agree f laws row codes slip.request).0 in
+          elim read [
+            | inl garbled ↦ clear.0 (place e) garbled.1.0 garbled.1.1
+            | inr x ↦ elim x.1 [ | inl foreign ↦ clear.1.0 (place e) foreign.1.0 foreign.1.1 | inr y ↦ y.1 ]
+          ]
+
+      module _ {b2 : Book} {before after : List ℕ} (took : TakesIn f b1 slip.request words before b2 after) where
+        stands_heard : standing b2 slip.request.station ≡ Heard
+        stands_heard =
+            ap (λ xs. standing_of xs slip.request.station) took.standings
+            ∙ get_or-set_same b1.standings slip.request.station Heard Free (omega (arith, station_named, r.station, b1.full, b.terms.stations_in))
+
+        pub returns_ready : (e : Refusal) → Refused (returning b2 slip.request) e → ⊥
+        returns_ready e (inl x) = x.0 (asks_here b2 (took.keeps.terms ∙ out.keeps.terms) (took.keeps.question ∙ out.keeps.question), inr stands_heard)
+        returns_ready e (inr x) = x.1
+
+        pub comes_answered : (r : Returned) → r ≡ returned_as (standing b2 slip.request.station) → r ≡ Answered
+        comes_answered r says = says ∙ ap returned_as stands_heard
