@@ -1,16 +1,20 @@
 pub mod CallsAdded
 pub mod CallsTold
 pub mod Counted
+pub mod EndingsFound
 pub mod EveryRun
 pub mod Indices
+pub mod LowestStations
 pub mod MostTaken
 pub mod OnlyAsked
 pub mod OpenedTold
 pub mod RepliesIn
 pub mod ReplyIn
 pub mod ReplyInRow
+pub mod RowsOpened
 pub mod Shapes
 pub mod ShapesKept
+pub mod SlipsOut
 pub mod StandingsSet
 pub mod Steadied
 pub mod StepsTold
@@ -21,3 +25,4 @@ pub mod TakenPerSlip
 pub mod Told
 pub mod TrueEnds
 pub mod TrueReports
+pub mod ValuesPlaced

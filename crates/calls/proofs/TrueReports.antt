@@ -19,7 +19,7 @@ use Rattle.calls.specs.Steady.{FarmHolds, copies, sums}
 use Rattle.calls.specs.Promise.{Judged, Differs, Right}
 
 -- lists of the same pages
-lists_as : (N : ℕ) (Q P : ℕ → Type 0) → ((n : ℕ) → Page N n → Q n → P n) → ((n : ℕ) → Page N n → P n → Q n) → (xs : List ℕ) → Lists N Q xs → Lists N P xs
+pub lists_as : (N : ℕ) (Q P : ℕ → Type 0) → ((n : ℕ) → Page N n → Q n → P n) → ((n : ℕ) → Page N n → P n → Q n) → (xs : List ℕ) → Lists N Q xs → Lists N P xs
 lists_as N Q P to from xs l = record {
   each = λ i h. let e = l.each i h in (e.0, to _ e.0 e.1);
   rising = l.rising;
@@ -54,10 +54,10 @@ module _ (M : ℕ) (P : Table) (n : ℕ) where
   ]
 
   -- on a page with a majority a copy is bad where it differs from it
-  bad_differs : (s : ℕ) → Decided M P n → Bad M P s n → Differs M P s n
+  pub bad_differs : (s : ℕ) → Decided M P n → Bad M P s n → Differs M P s n
   bad_differs s d bad = (d.0, d.1, λ e. bad (subst (Majority M P n) (sym e) d.1))
 
-  differs_bad : (s : ℕ) → Differs M P s n → Bad M P s n
+  pub differs_bad : (s : ℕ) → Differs M P s n → Bad M P s n
   differs_bad s x most = x.2 (one_majority (P s n) x.0 most x.1)
 
 module _ (f : Ops) (l : Laws f) (spread : Spread f) (holds : ℕ → List ℕ) (t : Terms) (pages : Within 1 (page_limit f) t.pages)

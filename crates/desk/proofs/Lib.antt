@@ -3,5 +3,7 @@ pub mod Asked
 pub mod CardsClosed
 pub mod CardsHeld
 pub mod Exchanged
+pub mod LinesFound
+pub mod ListsShort
 pub mod Readied
 pub mod Rounds

@@ -1,5 +1,6 @@
 -- The text of a farm's findings: a line for each bad copy, or the page that is split, or `over`; then the count of sums taken. A refusal stands alone.
 use Rattle.std.specs.Prelude.{◌≡◌, ℕ, zero, suc, ◌+◌, ◌*◌, ◌≤◌, ◌⊎◌, min, List, [], ◌∷◌, ◌++◌, length, drop, codes, decimal}
+use Rattle.field.specs.Field.{Ops}
 use Rattle.field.specs.Sums.{entry}
 use Rattle.binary.specs.Binary.{small}
 use Rattle.algebra.specs.Vectors.{Page}
@@ -83,19 +84,18 @@ VerdictText M N tally Report text = LinesOf M N (Bad M (signature_in tally N)) t
 
 -- ── what is found
 
-module _ (M N bound : ℕ) (holds : ℕ → List ℕ) where
-  -- what the rules find of the farm's table
-  abbrev pub RulesFind : List ℕ → Type 0
-  RulesFind text =
-      (Comes small M N bound (sums small N holds) (sums small N holds) (copies holds 1) over × (text ≡ over_line))
-      ⊎ (((n : ℕ) × EndsSplit small M N bound (sums small N holds) (sums small N holds) (copies holds 1) (copies holds) n × (text ≡ split_line n))
-      ⊎ ((R : Table) × EndsReport small M N bound (sums small N holds) (sums small N holds) (copies holds 1) (copies holds) R × LinesOf M N (Bad M R) text))
+-- what the rules find of what the stations hold
+abbrev pub RulesFind : Ops → (M N bound : ℕ) → (ℕ → List ℕ) → List ℕ → Type 0
+RulesFind f M N bound holds text =
+    (Comes f M N bound (sums f N holds) (sums f N holds) (copies holds 1) over × (text ≡ over_line))
+    ⊎ (((n : ℕ) × EndsSplit f M N bound (sums f N holds) (sums f N holds) (copies holds 1) (copies holds) n × (text ≡ split_line n))
+    ⊎ ((R : Table) × EndsReport f M N bound (sums f N holds) (sums f N holds) (copies holds 1) (copies holds) R × LinesOf M N (Bad M R) text))
 
-  -- what is true of the farm's table: a page has no majority, or each has one, and these are the copies that differ from it
-  abbrev pub TrueFind : List ℕ → Type 0
-  TrueFind text =
-      ((n : ℕ) × Page N n × (¬ Decided M (copies holds) n) × (text ≡ split_line n))
-      ⊎ (Reports M N (copies holds) × LinesOf M N (Differs M (copies holds)) text)
+-- what is true of it: a page has no majority, or each has one, and these are the copies that differ from it
+abbrev pub TrueFind : (M N : ℕ) → (ℕ → List ℕ) → List ℕ → Type 0
+TrueFind M N holds text =
+    ((n : ℕ) × Page N n × (¬ Decided M (copies holds) n) × (text ≡ split_line n))
+    ⊎ (Reports M N (copies holds) × LinesOf M N (Differs M (copies holds)) text)
 
 -- what is written for an input: why it is refused; else what the rules find and how many sums were taken. In the bound and in a plain farm what they
 -- find is true.
@@ -104,8 +104,8 @@ pub record FarmText (M N bound : ℕ) (signatures out : List ℕ) : Type 0 where
   pub count : ℕ
   pub text : out ≡ body ++ sums_line count
   pub taken : Taken M N bound small signatures count
-  pub rules : RulesFind M N bound (cards small N signatures) body
-  pub true : Plain M N bound ⊎ (strays M (copies (cards small N signatures)) N ≤ bound) → TrueFind M N bound (cards small N signatures) body
+  pub rules : RulesFind small M N bound (cards small N signatures) body
+  pub true : Plain M N bound ⊎ (strays M (copies (cards small N signatures)) N ≤ bound) → TrueFind M N (cards small N signatures) body
 
 abbrev pub FindingsText : (input out : List ℕ) → Type 0
 FindingsText input out =

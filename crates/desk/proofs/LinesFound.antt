@@ -1,0 +1,43 @@
+-- What a verdict's text says: what the rules find of the cards and, where that is right, what is true of them.
+use Rattle.std.proofs.Common.{◌≡◌, ℕ, ◌≤◌, ◌⊎◌, List, inl, inr, sym, subst}
+use Rattle.field.specs.Field.{Ops}
+use Rattle.algebra.specs.Vectors.{Page}
+use Rattle.scheme.specs.Farm.{Table, Station, Same, Bad, strays}
+use Rattle.scheme.proofs.Tables.{bad_same}
+use Rattle.tally.specs.Rows.{signature_in}
+use Rattle.calls.specs.declared.book.Book.{Book}
+use Rattle.calls.specs.declared.terms.Terms.{Terms}
+use Rattle.calls.specs.declared.phases.Verdict.{Verdict}
+use Rattle.calls.specs.declared.phases.Verdict.TheVariants.{Report, Split, Over}
+use Rattle.calls.specs.Opening.{Stands}
+use Rattle.calls.specs.Runs.{closed}
+use Rattle.calls.specs.Steady.{copies}
+use Rattle.calls.specs.Promise.{Judged, Right, Differs}
+use Rattle.calls.proofs.TrueReports.{lists_as, bad_differs, differs_bad}
+use Rattle.desk.proofs.Asked.{by_terms}
+use Rattle.desk.specs.Findings.{LinesOf, VerdictText, RulesFind, TrueFind}
+
+-- lines of the same copies
+lines_as : (M N : ℕ) (Q P : ℕ → ℕ → Type 0) → ((s n : ℕ) → Station M s → Page N n → Q s n → P s n) → ((s n : ℕ) → Station M s → Page N n → P s n → Q s n)
+    → (text : List ℕ) → LinesOf M N Q text → LinesOf M N P text
+lines_as M N Q P to from text (pages, lists, is) =
+    (pages, λ s station. lists_as N (Q s) (P s) (λ n p. to s n station p) (λ n p. from s n station p) (pages s) (lists s station), is)
+
+module _ (f : Ops) (holds : ℕ → List ℕ) (t : Terms) (tally : List ℕ) (text : List ℕ) where
+  pub rules_found : (v : Verdict) → Judged f holds t tally (closed v) → VerdictText t.stations t.pages tally v text
+      → RulesFind f t.stations t.pages t.bound holds text
+  rules_found Over judged is = inl (judged, is)
+  rules_found (Split n) judged is = inr (inl (n, judged, is))
+  rules_found Report (R, ends, same) lines =
+      inr (inr (R, ends, lines_as t.stations t.pages (Bad t.stations (signature_in tally t.pages)) (Bad t.stations R)
+      (λ s n a p. bad_same t.stations t.pages R (signature_in tally t.pages) (λ s n a p. sym (same s n a p)) n p s a)
+      (λ s n a p. bad_same t.stations t.pages (signature_in tally t.pages) R same n p s a) text lines))
+
+  pub truth_found : (v : Verdict) → Right holds t tally (closed v) → VerdictText t.stations t.pages tally v text → TrueFind t.stations t.pages holds text
+  truth_found Over right is = absurd right
+  truth_found (Split n) right is = inl (n, right.0, right.1, is)
+  truth_found Report right lines =
+      inr (right.decided, lines_as t.stations t.pages (Bad t.stations (signature_in tally t.pages)) (Differs t.stations (copies holds))
+      (λ s n a p bad. bad_differs t.stations (copies holds) n s (right.decided n p)
+      (bad_same t.stations t.pages (copies holds) (signature_in tally t.pages) (λ s n a p. sym (right.rows s n a p)) n p s a bad))
+      (λ s n a p d. bad_same t.stations t.pages (signature_in tally t.pages) (copies holds) right.rows n p s a (differs_bad t.stations (copies holds) n s d)) text lines)
