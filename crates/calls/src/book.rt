@@ -1,5 +1,5 @@
 // What a check keeps between its calls.
-ghost use Rattle.std.specs.Prelude.{◌≡◌, ◌+◌, ◌*◌, ◌≤◌, length};
+ghost use Rattle.std.specs.Prelude.{◌≡◌, ◌+◌, ◌*◌, ◌^◌, ◌<◌, ◌≤◌, length};
 ghost use Rattle.calls.specs.Standings.{still_out, replies_out};
 
 use crate::counts::Counts;
@@ -16,6 +16,7 @@ pub struct Book {
     pub(crate) standings: [Standing; 9],
     pub(crate) counts: Counts,
     ghost full: { length standings ≡ 9 },
+    ghost countable: { counts.handed < 2 ^ 32 },
     ghost balance: { counts.handed ≡ counts.answered + counts.blank + counts.out },
     ghost outs: { counts.out ≡ still_out standings },
     ghost modest: { counts.taken ≤ 1920 * (counts.answered + replies_out standings) },

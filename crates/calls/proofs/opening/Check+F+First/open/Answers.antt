@@ -1,0 +1,11 @@
+use Rattle.calls.proofs.EveryRun.{every_run}
+use Rattle.calls.proofs.opening.Check+F+First.open.Goals as goal
+
+pub returns-in_err-terms-clause-promise : goal.returns-in_err-terms-clause-promise
+returns-in_err-terms-clause-promise g c = every_run
+
+pub returns-then-tally_size-tally-clause-promise : goal.returns-then-tally_size-tally-clause-promise
+returns-then-tally_size-tally-clause-promise g c = every_run
+
+pub returns-clause-promise : goal.returns-clause-promise
+returns-clause-promise g c = every_run
