@@ -20,6 +20,7 @@ pub mod Steadied
 pub mod StepsTold
 pub mod SumsAsked
 pub mod TakenByStage
+pub mod TakenFits
 pub mod TakenKept
 pub mod TakenPerSlip
 pub mod Told

@@ -27,10 +27,10 @@ front_cleared K before front fits is =
     }
 
 module _ (f : Ops) (row : List ℕ) (M N J K : ℕ) (some : 1 ≤ M) (told : J ≤ 128) (size_is : K ≡ tally_size M N)
-  (before front signed after : List ℕ) (room : tally_size M N ≤ length before)
-  (zeros : front ≡ replicate (length (take K before)) 0)
-  (signatures_put : Placed (signature_place N 1) (entry row) 1 (N + 1) (front ++ drop K before) signed)
-  (sums_put : Placed (sum_place N 1) (power_sum f N (entry row)) 1 (J + 1) signed after) where
+    (before front signed after : List ℕ) (room : tally_size M N ≤ length before)
+    (zeros : front ≡ replicate (length (take K before)) 0)
+    (signatures_put : Placed (signature_place N 1) (entry row) 1 (N + 1) (front ++ drop K before) signed)
+    (sums_put : Placed (sum_place N 1) (power_sum f N (entry row)) 1 (J + 1) signed after) where
   cleared : Cleared K before (front ++ drop K before)
   cleared = front_cleared K before front (omega arith) zeros
 

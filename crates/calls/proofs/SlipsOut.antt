@@ -1,4 +1,4 @@
--- A slip that is out is counted: a check with one has a slip less than all that it can hand out among those that came back.
+-- A slip that is out is counted: fewer came back than were handed out.
 use Rattle.std.proofs.Common.{◌≡◌, ℕ, zero, suc, ◌+◌, ◌≤◌, List, [], ◌∷◌, inl, inr, ap, arith}
 use Rattle.std.proofs.lemmas.List.Sums.{sum_by-cons}
 use Rattle.calls.specs.declared.standing.Standing.{Standing}

@@ -11,8 +11,8 @@ pub loop-j-preserved : goal.loop-j-preserved
 loop-j-preserved g c = (
   omega arith,
   one_placed c.loop-j.invariant.1 (omega arith) (λ k. indices_apart Sums c.args.pages 1 k c.loop-j.j)
-  (c.own_sum-sum.ensures ∙ ap (λ n. power_sum g.F.Field.ops n (entry (g.S.Station.row c.args.own.now)) c.loop-j.j) c.requires.whole)
-  c.put_sum.ensures,
+      (c.own_sum-sum.ensures ∙ ap (λ n. power_sum g.F.Field.ops n (entry (g.S.Station.row c.args.own.now)) c.loop-j.j) c.requires.whole)
+      c.put_sum.ensures,
 )
 
 pub returns : goal.returns
