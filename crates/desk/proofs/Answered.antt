@@ -36,7 +36,6 @@ module _ (f : Ops) (row : List ℕ) (p : Request) (words before after : List ℕ
 
   pub served_never_refused : InRange row p → 4 + values_due p ≤ length before → (refusal : Refusal) → Served f row p.station words before after (Err refusal) → ⊥
   served_never_refused range room refusal (inl (q, words_are, (refused, kept))) =
-      
       let same = (requests_read_back p).1 q (sym words_are ∙ is) in
       elim refused [
         | inl other ↦ other.0 same.1
@@ -50,4 +49,4 @@ module _ (f : Ops) (row : List ℕ) (p : Request) (words before after : List ℕ
       ]
   served_never_refused range room refusal (inr (r, not, refused, kept)) =
       let clear = subst (λ ws. Accepted (reading_request ws)) (sym is) (requests_read_back p).0 in
-      elim refused [ | inl garbled ↦ clear.0 (place r) garbled.1.0 garbled.1.1 | inr x ↦ x.1 ]
+      elim refused [ inl garbled ↦ clear.0 (place r) garbled.1.0 garbled.1.1 | inr x ↦ x.1 ]

@@ -60,6 +60,6 @@ pub sums_left : (f : Ops) (M N bound : ℕ) (T : Table) (own : ℕ → ℕ) (k :
     → first_sums M bound < all_sums N bound
 sums_left f M N bound T own k some not (inl (four, w)) =
     let h : first_sums M bound ≡ bound = ap (λ t. cond t ((3 * bound + 1) / 2) bound) (ne_eqb M 3 (omega arith)) in
-    let many : bound < N = elim (dec_le N bound) [ | yes few ↦ absurd (not (inl (four, few))) | no m ↦ omega arith ] in
+    let many : bound < N = elim (dec_le N bound) [ yes few ↦ absurd (not (inl (four, few))) | no m ↦ omega arith ] in
     omega (arith, h)
 sums_left f M N bound T own k some not (inr (three, w)) = subst (λ M. first_sums M bound < all_sums N bound) (sym three) w.0

@@ -43,9 +43,11 @@ module _ (f : Ops) (laws : Laws f) (spread : Spread f) (promise : EveryRun) (M N
   pub judged_right : Judged f (cards f N words) b.terms after g
       × (Plain M N bound ⊎ (strays M (copies (cards f N words)) N ≤ bound) → Right (cards f N words) b.terms after g)
   judged_right =
-      let r = (promise f laws spread (cards f N words 1) calls.opened calls.calls b g calls.run).1 (cards f N words) after held calls.steady in
-      (r.0, λ given. r.1 (by_terms (λ M' N' bound'. Plain M' N' bound' ⊎ (strays M' (copies (cards f N words)) N' ≤ bound') → PlainTerms b.terms ⊎ (strays b.terms.stations (copies (cards f N words)) b.terms.pages ≤ b.terms.bound))
-      b.terms 1 M N bound stands (λ h. h) given))
+      let r = (promise f laws spread (cards f N words 1) calls.opened calls.calls b g calls.run).1 (cards f N words) after held calls.steady in (
+        r.0,
+        λ given. r.1 (by_terms (λ M' N' bound'. Plain M' N' bound' ⊎ (strays M' (copies (cards f N words)) N' ≤ bound') → PlainTerms b.terms ⊎ (strays b.terms.stations (copies (cards f N words)) b.terms.pages ≤ b.terms.bound))
+            b.terms 1 M N bound stands (λ h. h) given),
+      )
 
 -- a check closes by an outcome that asks nobody
 closing_outcome : (Ends : Outcome → Type 0) (M N : ℕ) (before after : List ℕ) (v : Verdict) → Finds Ends M N before after v → (o : Outcome) × Ends o × ((k : ℕ) → o ≢ asks k)
@@ -98,8 +100,8 @@ module _ (f : Ops) (laws : Laws f) (spread : Spread f) (promise : EveryRun) (M N
           let shape = shape_kept f laws spread (cards f N words 1) so.opened so.calls b first so.run in
           let o = closing_outcome (WeighEnds f b.terms tally) b.terms.stations b.terms.pages tally after v w.finds in
           let there : (¬ PlainTerms b.terms) × ((k : ℕ) × Weighs f b.terms.stations b.terms.pages b.terms.bound (sums f b.terms.pages (cards f N words)) (copies (cards f N words) 1) (asks k))
-              = by_terms (λ M' N' bound'. (¬ Plain M' N' bound') × ((k : ℕ) × Weighs f M' N' bound' (sums f N' (cards f N words)) (copies (cards f N words) 1) (asks k))
-              → (¬ PlainTerms b.terms) × ((k : ℕ) × Weighs f b.terms.stations b.terms.pages b.terms.bound (sums f b.terms.pages (cards f N words)) (copies (cards f N words) 1) (asks k))) b.terms 1 M N bound going.terms (λ a. a) again in
+          = by_terms (λ M' N' bound'. (¬ Plain M' N' bound') × ((k : ℕ) × Weighs f M' N' bound' (sums f N' (cards f N words)) (copies (cards f N words) 1) (asks k))
+          → (¬ PlainTerms b.terms) × ((k : ℕ) × Weighs f b.terms.stations b.terms.pages b.terms.bound (sums f b.terms.pages (cards f N words)) (copies (cards f N words) 1) (asks k))) b.terms 1 M N bound going.terms (λ a. a) again in
           elim o.1 [
             | inl hand ↦ there.0 hand.2
             | inr x ↦
@@ -196,7 +198,7 @@ module _ (f : Ops) (laws : Laws f) (spread : Spread f) (promise : EveryRun) (M N
         pub by_settling : Checked M N bound f words before d v after
         by_settling =
             let r = judged_right f laws spread promise M N bound words before whole d (closed v) after
-                    (subst (λ (b : Book). Stands b.terms 1 M N bound) (sym s.book) (subst (λ t. Stands t 1 M N bound) (sym (terms_kept x)) stands_again)) calls_settled in
+            (subst (λ (b : Book). Stands b.terms 1 M N bound) (sym s.book) (subst (λ t. Stands t 1 M N bound) (sym (terms_kept x)) stands_again)) calls_settled in
             record {
               terms = subst (λ (b : Book). Stands b.terms 1 M N bound) (sym s.book) (subst (λ t. Stands t 1 M N bound) (sym (terms_kept x)) stands_again);
               fits = omega (arith, going.fits, ap length w.written, size_kept x, finds_size (SettleEnds f e.terms told) e.terms.stations e.terms.pages told after v s.finds);

@@ -29,15 +29,22 @@ module _ (f : Ops) (holds : ℕ → List ℕ) (t : Terms) (tally : List ℕ) (te
   rules_found Over judged is = inl (judged, is)
   rules_found (Split n) judged is = inr (inl (n, judged, is))
   rules_found Report (R, ends, same) lines =
-      inr (inr (R, ends, lines_as t.stations t.pages (Bad t.stations (signature_in tally t.pages)) (Bad t.stations R)
-      (λ s n a p. bad_same t.stations t.pages R (signature_in tally t.pages) (λ s n a p. sym (same s n a p)) n p s a)
-      (λ s n a p. bad_same t.stations t.pages (signature_in tally t.pages) R same n p s a) text lines))
+      inr (inr (
+        R,
+        ends,
+        lines_as t.stations t.pages (Bad t.stations (signature_in tally t.pages)) (Bad t.stations R)
+            (λ s n a p. bad_same t.stations t.pages R (signature_in tally t.pages) (λ s n a p. sym (same s n a p)) n p s a)
+            (λ s n a p. bad_same t.stations t.pages (signature_in tally t.pages) R same n p s a) text lines,
+      ))
 
   pub truth_found : (v : Verdict) → Right holds t tally (closed v) → VerdictText t.stations t.pages tally v text → TrueFind t.stations t.pages holds text
   truth_found Over right is = absurd right
   truth_found (Split n) right is = inl (n, right.0, right.1, is)
   truth_found Report right lines =
-      inr (right.decided, lines_as t.stations t.pages (Bad t.stations (signature_in tally t.pages)) (Differs t.stations (copies holds))
-      (λ s n a p bad. bad_differs t.stations (copies holds) n s (right.decided n p)
-      (bad_same t.stations t.pages (copies holds) (signature_in tally t.pages) (λ s n a p. sym (right.rows s n a p)) n p s a bad))
-      (λ s n a p d. bad_same t.stations t.pages (signature_in tally t.pages) (copies holds) right.rows n p s a (differs_bad t.stations (copies holds) n s d)) text lines)
+      inr (
+        right.decided,
+        lines_as t.stations t.pages (Bad t.stations (signature_in tally t.pages)) (Differs t.stations (copies holds))
+            (λ s n a p bad. bad_differs t.stations (copies holds) n s (right.decided n p)
+            (bad_same t.stations t.pages (copies holds) (signature_in tally t.pages) (λ s n a p. sym (right.rows s n a p)) n p s a bad))
+            (λ s n a p d. bad_same t.stations t.pages (signature_in tally t.pages) (copies holds) right.rows n p s a (differs_bad t.stations (copies holds) n s d)) text lines,
+      )

@@ -70,7 +70,7 @@ module _ {row : List ℕ} {only : Option ℕ} {s : ℕ} {b : Book} {room : ℕ} 
           let clear = subst (λ ws. Accepted (reading_reply f slip.request ws)) (sym told) (agree f laws row codes slip.request).0 in
           elim read [
             | inl garbled ↦ clear.0 (place e) garbled.1.0 garbled.1.1
-            | inr x ↦ elim x.1 [ | inl foreign ↦ clear.1.0 (place e) foreign.1.0 foreign.1.1 | inr y ↦ y.1 ]
+            | inr x ↦ elim x.1 [ inl foreign ↦ clear.1.0 (place e) foreign.1.0 foreign.1.1 | inr y ↦ y.1 ]
           ]
 
       module _ {b2 : Book} {before after : List ℕ} (took : TakesIn f b1 slip.request words before b2 after) where

@@ -19,7 +19,6 @@ use Rattle.desk.specs.Exchange.{Ready, Exchange}
 use Rattle.desk.specs.Going.{Calls, Going, FirstDue}
 use Rattle.desk.proofs.Exchanged.{three_calls, terms_kept, question_kept, size_kept, station_is, handed_more, taken_more, heard, others_stay, run_longer, steady_longer}
 
-
 module _ (f : Ops) (M N bound : ℕ) (words before : List ℕ) (next : ℕ) (b : Book) (tally : List ℕ)
     (going : Going M N bound f words before next b tally) (within : Within 2 M next) where
   stands : Stands b.terms 1 M N bound

@@ -1,7 +1,7 @@
 // The cards of a farm, one for each station.
 ghost use Rattle.std.specs.Prelude.{◌≡◌, ◌*◌, length, MatchResult};
 ghost use Rattle.refusal.specs.Rules.{Refused, Accepted};
-ghost use Rattle.scheme.specs.Farm;
+ghost use Rattle.scheme.specs.Farm.{Station};
 ghost use Rattle.desk.specs.Copies.{length_is, words_of};
 
 use field::Field;
@@ -22,7 +22,7 @@ pub(crate) fn accept_length(due: usize, count: usize) -> Result<(), Refusal>
 // The card of a station.
 pub(crate) fn card_of<'a, F: Field>(farm: &Farm<F>, words: &'a [u32], station: usize) -> Card<'a, F>
     requires whole { length words.now ≡ farm.now.stations * farm.now.pages }
-    requires station { Farm.Station farm.now.stations station }
+    requires station { Station farm.now.stations station }
     ensures { result.words.now ≡ words_of farm.now.pages words.now station }
 {
     let start = (station - 1) * farm.pages;

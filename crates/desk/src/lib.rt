@@ -3,10 +3,10 @@
 
 mod copies;
 mod exchange;
-mod findings;
 mod line;
 mod report;
 mod round;
+mod text;
 
-pub use findings::findings;
 pub use round::check_cards;
+pub use text::findings;

@@ -6,7 +6,7 @@ use refusal::Refusal;
 use std::alloc::{AllocError, Global};
 
 // A bad copy.
-pub(crate) fn for_copy(heap: Global, station: usize, page: u32) -> Result<String, AllocError>
+pub(crate) fn for_copy(heap: Global, station: u32, page: u32) -> Result<String, AllocError>
     ensures { IfOk result (λ text. string_bytes text ≡ copy_line station page) }
 {
     format!(in heap; "{station} {page}\n")
