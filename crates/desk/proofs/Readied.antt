@@ -1,5 +1,5 @@
 -- A ready exchange is refused nowhere, and its slip comes back answered.
-use Rattle.std.proofs.Common.{◌≡◌, ℕ, suc, ◌+◌, ◌-◌, ◌≤◌, ◌<◌, ◌++◌, List, length, drop, Option, Ok, Err, inl, inr, sym, refl, ap, ap₂, ◌∙◌, subst, set, get_or-set_same, append-nil, arith}
+use Rattle.std.proofs.Common.{◌≡◌, ℕ, suc, ◌+◌, ◌-◌, ◌≤◌, ◌<◌, ◌++◌, List, length, take, drop, Option, Ok, Err, inl, inr, sym, refl, ap, ap₂, ◌∙◌, subst, set, get_or-set_same, append-nil, arith}
 use Rattle.std.proofs.Math.ListN.{drop_of_length-le}
 use Rattle.field.specs.Field.{Ops, Laws}
 use Rattle.field.specs.Sums.{entry}
@@ -9,7 +9,7 @@ use Rattle.refusal.specs.Rules.{Within, Refused, Accepted}
 use Rattle.link.specs.declared.request.Request.{Request}
 use Rattle.link.specs.Requests.{Holds, request_words, values_due}
 use Rattle.link.specs.Reading.{reading_reply, reply_words}
-use Rattle.station.specs.Serving.{answers, InRange, index_limit, EndsAgree}
+use Rattle.station.specs.Serving.{answers, InRange, index_limit, EndsAgree, Served}
 use Rattle.tally.specs.Rows.{tally_size}
 use Rattle.calls.specs.declared.book.Book.{Book}
 use Rattle.calls.specs.declared.slip.Slip.{Slip}
@@ -20,6 +20,7 @@ use Rattle.calls.specs.declared.standing.Standing.TheVariants.{Free, Out, Heard,
 use Rattle.calls.specs.Standings.{standing_of, SlipOut}
 use Rattle.calls.specs.Slips.{slipping, taking, returning, Slips, Takes, TakesIn, Returns, Asks, OutHere, HandsOut, standing, returned_as}
 use Rattle.desk.specs.Exchange.{Ready, Exchange}
+use Rattle.desk.proofs.Answered.{served_answers}
 use Rattle.calls.proofs.StandingsSet.{not_free, not_done}
 
 module _ {row : List ℕ} {only : Option ℕ} {s : ℕ} {b : Book} {room : ℕ} (r : Ready row only s b room) where
@@ -38,6 +39,12 @@ module _ {row : List ℕ} {only : Option ℕ} {s : ℕ} {b : Book} {room : ℕ} 
 
     pub station_named : slip.request.station ≡ s
     station_named = out.request.1
+
+    pub reply_told : (f : Ops) → length blank ≡ 4 → (count : ℕ) (before after : List ℕ) → Served f row s request before after (Ok count)
+        → take count after ≡ reply_words slip.request (answers f row slip.request)
+    reply_told f four count before after served =
+        served_answers f row slip.request request before after (words_written four) count
+        (subst (λ n. Served f row n request before after (Ok count)) (sym station_named) served)
 
     pub in_range : InRange row slip.request
     in_range = (
