@@ -1,7 +1,10 @@
 -- How a check of cards ends: by weighing, or by one more exchange and settling.
 use Rattle.std.proofs.Common.{◌≡◌, ℕ, suc, ◌+◌, ◌-◌, ◌*◌, ◌≤◌, ◌<◌, ◌≢◌, ◌⊎◌, List, ◌∷◌, length, Option, Some, None, inl, inr, sym, refl, ap, ap₂, ◌∙◌, subst, set, get_or-set_same, arith}
 use Rattle.field.specs.Field.{Ops, Laws, Spread}
-use Rattle.refusal.specs.Rules.{Within}
+use native.Mathlib.Decide.{ℕ_discrete}
+use Rattle.refusal.specs.declared.Refusal.{Refusal}
+use Rattle.refusal.specs.Numbers.{place}
+use Rattle.refusal.specs.Rules.{Within, Refused}
 use Rattle.link.specs.declared.asked.Asked.TheVariants.{Sums, Signatures}
 use Rattle.link.specs.Requests.{values_due}
 use Rattle.scheme.specs.Askings.{first_sums, all_sums, Plain, Outcome, over, split, filled, asks}
@@ -16,7 +19,8 @@ use Rattle.calls.specs.declared.phases.Verdict.TheVariants.{Report, Split, Over}
 use Rattle.calls.specs.declared.standing.Standing.TheVariants.{Free, Done}
 use Rattle.calls.specs.Questions.{FirstAsks, SecondAsks, PlainTerms}
 use Rattle.calls.specs.Opening.{Stands}
-use Rattle.calls.specs.Closing.{WeighCloses, WeighAsks, WeighEnds, SettleEnds, SettleCloses, Finds}
+use Rattle.calls.proofs.StandingsSet.{standing_other, not_done}
+use Rattle.calls.specs.Closing.{closing, WeighCloses, WeighAsks, WeighEnds, SettleEnds, SettleCloses, Finds}
 use Rattle.calls.specs.Slips.{standing}
 use Rattle.calls.specs.Runs.{Stage, first, second, closed, Call, weigh, settle, Run, called, weigh_closes, weigh_asks, settle_closes}
 use Rattle.calls.specs.Steady.{copies, sums, Steady, FarmHolds}
@@ -32,7 +36,7 @@ use Rattle.calls.proofs.TrueEnds.{first_weighs}
 use Rattle.calls.proofs.StepsTold.{told_judged}
 use Rattle.desk.proofs.Asked.{by_terms, sums_left}
 use Rattle.desk.proofs.CardsHeld.{card_size, cards_held}
-use Rattle.desk.proofs.Exchanged.{three_calls, terms_kept, question_kept, size_kept, station_is, handed_more, taken_more, run_longer, steady_longer}
+use Rattle.desk.proofs.Exchanged.{three_calls, terms_kept, size_kept, heard, others_stay, taken_more, run_longer, steady_longer}
 
 -- what the promise says of calls on a check of cards
 module _ (f : Ops) (laws : Laws f) (spread : Spread f) (promise : EveryRun) (M N bound : ℕ) (words before : List ℕ) (whole : length words ≡ M * N)
@@ -173,6 +177,26 @@ module _ (f : Ops) (laws : Laws f) (spread : Spread f) (promise : EveryRun) (M N
         short = second_short;
         fits = omega (arith, going.fits, by_terms (λ M N bound. tally_size b'.terms.stations b'.terms.pages ≡ tally_size M N) b'.terms 1 M N bound stands_again refl, ap length w.written);
       }
+
+      module _ (e : Book) (told : List ℕ) (x : Exchange f (cards f N words k) (Some k) k b' asked e told) where
+        all_heard : (t : ℕ) → Within 2 e.terms.stations t → standing e t ≡ Done
+        all_heard t within = elim (ℕ_discrete t k) [
+          | yes same ↦ ap (standing e) same ∙ heard x
+          | no other ↦
+              others_stay x t other ∙ ap (λ xs. standing_of xs t) w.again.standings ∙ standing_other b.standings k t Free other
+              ∙ going.heard t within.0 (omega (arith, within, ap (λ t. t.stations) (terms_kept x), stands_again.0, stands_again.1))
+        ]
+
+        pub settles_ready : (r : Refusal) → Refused (closing e (length told)) r → ⊥
+        settles_ready r (inl short) = short.0 (omega (arith, size_kept x, ap length w.written, going.fits, fits_e))
+          where
+            fits_e : tally_size e.terms.stations e.terms.pages ≡ tally_size M N
+            fits_e =
+                by_terms (λ M N bound. tally_size e.terms.stations e.terms.pages ≡ tally_size M N) e.terms 1 M N bound
+                (subst (λ t. Stands t 1 M N bound) (sym (terms_kept x)) stands_again) refl
+        settles_ready r (inr (_, inl out)) = not_done (standing e (place r)) out.1.1.1 (all_heard (place r) out.1.1.0)
+        settles_ready r (inr (_, inr (_, inl lacking))) = lacking.1.1.1 (all_heard (place r) lacking.1.1.0)
+        settles_ready r (inr (_, inr (_, inr y))) = y.1
 
       module _ (e : Book) (told : List ℕ) (x : Exchange f (cards f N words k) (Some k) k b' asked e told) (v : Verdict) (d : Book) (after : List ℕ)
           (s : SettleCloses f e told v d after) where
