@@ -1,5 +1,5 @@
 -- The round of the first asking: what is ready before each exchange, and how far it is after it.
-use Rattle.std.proofs.Common.{◌≡◌, ℕ, ◌+◌, ◌-◌, ◌*◌, ◌≤◌, ◌<◌, ◌≢◌, List, suc, suc-mul, length, Option, Some, None, inl, inr, sym, refl, ap, ap₂, ◌∙◌, subst, arith}
+use Rattle.std.proofs.Common.{◌≡◌, ℕ, ◌+◌, ◌-◌, ◌*◌, ◌≤◌, ◌<◌, ◌≢◌, List, [], suc, suc-mul, zero-mul, length, Option, Some, None, inl, inr, sym, refl, ap, ap₂, ◌∙◌, subst, arith}
 use native.Mathlib.Decide.{ℕ_discrete}
 use Rattle.field.specs.Field.{Ops}
 use Rattle.refusal.specs.Rules.{Within}
@@ -11,8 +11,9 @@ use Rattle.calls.specs.declared.book.Book.{Book}
 use Rattle.calls.specs.declared.standing.Standing.TheVariants.{Free, Done}
 use Rattle.calls.specs.Questions.{FirstAsks}
 use Rattle.calls.specs.Slips.{standing}
-use Rattle.calls.specs.Runs.{first}
-use Rattle.calls.specs.Opening.{Stands}
+use Rattle.calls.specs.Runs.{first, opened}
+use Rattle.calls.specs.Opening.{Stands, Opens}
+use Rattle.calls.proofs.StandingsSet.{standing_start}
 use Rattle.desk.proofs.Asked.{by_terms, first_rising, first_short, first_answered, first_due}
 use Rattle.desk.specs.Copies.{words_of, cards}
 use Rattle.desk.specs.Exchange.{Ready, Exchange}
@@ -80,3 +81,27 @@ module _ (f : Ops) (M N bound : ℕ) (words before : List ℕ) (next : ℕ) (b :
       handed = omega (arith, handed_more x, going.handed);
       due = due_on;
     }
+
+-- a check that was just opened has asked nobody
+pub going_starts : (f : Ops) (M N bound : ℕ) (words before own : List ℕ) → own ≡ cards f N words 1 → (b : Book) (tally : List ℕ)
+    → Opens f own 1 M N bound before b tally → Going M N bound f words before 2 b tally
+going_starts f M N bound words before own is b tally opens = record {
+  so_far = record {
+    start = b;
+    opened = tally;
+    calls = [];
+    opens = here;
+    run = opened here;
+    steady = (refl, refl);
+  };
+  terms = opens.terms;
+  question = opens.starts.question;
+  fits = omega (arith, opens.accepted, opens.rows.size);
+  heard = λ s from to. absurd (omega arith);
+  free = λ s from to. standing_start b.standings opens.starts.standings s;
+  handed = ap (λ c. c.handed) opens.starts.counts;
+  due = λ d due. ap (λ c. c.taken) opens.starts.counts ∙ sym (zero-mul d);
+}
+  where
+    here : Opens f (cards f N words 1) 1 M N bound before b tally
+    here = subst (λ row. Opens f row 1 M N bound before b tally) is opens
