@@ -4,6 +4,7 @@ pub mod CardsClosed
 pub mod CardsHeld
 pub mod Exchanged
 pub mod LinesFound
+pub mod LinesWritten
 pub mod ListsShort
 pub mod Readied
 pub mod Rounds

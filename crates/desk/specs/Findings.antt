@@ -1,5 +1,6 @@
 -- The text of a farm's findings: a line for each bad copy, or the page that is split, or `over`; then the count of sums taken. A refusal stands alone.
 use Rattle.std.specs.Prelude.{◌≡◌, ℕ, zero, suc, ◌+◌, ◌*◌, ◌≤◌, ◌⊎◌, min, List, [], ◌∷◌, ◌++◌, length, drop, codes, decimal}
+use Rattle.std.specs.List.{flat_map}
 use Rattle.field.specs.Field.{Ops}
 use Rattle.field.specs.Sums.{entry}
 use Rattle.binary.specs.Binary.{small}
@@ -52,8 +53,7 @@ copy_line s n = decimal s ++ (codes " " ++ (decimal n ++ codes "\n"))
 
 -- a line for each of the pages of station s
 abbrev pub copy_lines : ℕ → List ℕ → List ℕ
-copy_lines s [] = []
-copy_lines s (n ∷ ns) = copy_line s n ++ copy_lines s ns
+copy_lines s pages = flat_map (copy_line s) pages
 
 -- the lines of the stations 1 .. M, by each station's pages
 abbrev pub station_lines : (ℕ → List ℕ) → ℕ → List ℕ
