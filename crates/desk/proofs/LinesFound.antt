@@ -1,6 +1,7 @@
 -- What a verdict's text says: what the rules find of the cards and, where that is right, what is true of them.
-use Rattle.std.proofs.Common.{◌≡◌, ℕ, ◌≤◌, ◌⊎◌, List, inl, inr, sym, subst}
+use Rattle.std.proofs.Common.{◌≡◌, ℕ, ◌≤◌, ◌⊎◌, List, ◌++◌, inl, inr, sym, subst}
 use Rattle.field.specs.Field.{Ops}
+use Rattle.binary.specs.Binary.{small}
 use Rattle.algebra.specs.Vectors.{Page}
 use Rattle.scheme.specs.Farm.{Table, Station, Same, Bad, strays}
 use Rattle.scheme.proofs.Tables.{bad_same}
@@ -15,7 +16,9 @@ use Rattle.calls.specs.Steady.{copies}
 use Rattle.calls.specs.Promise.{Judged, Right, Differs}
 use Rattle.calls.proofs.TrueReports.{lists_as, bad_differs, differs_bad}
 use Rattle.desk.proofs.Asked.{by_terms}
-use Rattle.desk.specs.Findings.{LinesOf, VerdictText, RulesFind, TrueFind}
+use Rattle.desk.specs.Findings.{LinesOf, VerdictText, RulesFind, TrueFind, FarmText, sums_line}
+use Rattle.desk.specs.Copies.{cards}
+use Rattle.desk.specs.Going.{Checked}
 
 -- lines of the same copies
 lines_as : (M N : ℕ) (Q P : ℕ → ℕ → Type 0) → ((s n : ℕ) → Station M s → Page N n → Q s n → P s n) → ((s n : ℕ) → Station M s → Page N n → P s n → Q s n)
@@ -48,3 +51,24 @@ module _ (f : Ops) (holds : ℕ → List ℕ) (t : Terms) (tally : List ℕ) (te
             (bad_same t.stations t.pages (copies holds) (signature_in tally t.pages) (λ s n a p. sym (right.rows s n a p)) n p s a bad))
             (λ s n a p d. bad_same t.stations t.pages (signature_in tally t.pages) (copies holds) right.rows n p s a (differs_bad t.stations (copies holds) n s d)) text lines,
       )
+
+-- the lines of a verdict and the count of sums are the text of the farm
+pub farm_text : (M N bound : ℕ) (signatures words : List ℕ) → words ≡ signatures → (before : List ℕ) (b : Book) (v : Verdict) (after : List ℕ)
+    → Checked M N bound small words before b v after → (body : List ℕ) → VerdictText M b.terms.pages after v body → (out : List ℕ)
+    → out ≡ body ++ sums_line b.counts.taken → FarmText M N bound signatures out
+farm_text M N bound signatures words same before b v after checked body told out is =
+    subst (λ signatures. FarmText M N bound signatures out) same (record {
+      body = body;
+      count = b.counts.taken;
+      text = is;
+      taken = checked.taken;
+      rules = by_terms (λ M N' bound. RulesFind small M N' bound holds body) b.terms 1 M N bound checked.terms (rules_found small holds b.terms after body v checked.judged lines);
+      true = λ given.
+          by_terms (λ M N' bound. TrueFind M N' holds body) b.terms 1 M N bound checked.terms (truth_found small holds b.terms after body v (checked.right given) lines);
+    })
+  where
+    holds : ℕ → List ℕ
+    holds = cards small N words
+
+    lines : VerdictText b.terms.stations b.terms.pages after v body
+    lines = subst (λ M. VerdictText M b.terms.pages after v body) (sym checked.terms.1) told
