@@ -42,10 +42,6 @@ reading input =
     unless (3 ≤ length input) 8 (suc (length input)) ∷ unless (Within 3 8 (stations_of input)) 1 2 ∷ unless (Within 1 255 (pages_of input)) 1 3
     ∷ unless (Within 1 64 (bound_of input)) 1 4 ∷ unless (length input ≡ due input) 8 (suc (min (due input) (length input))) ∷ []
 
--- what the stations hold, in the small field
-abbrev pub held : List ℕ → ℕ → List ℕ
-held input = cards small (pages_of input) (drop 3 input)
-
 -- ── the lines that are written
 
 abbrev pub copy_line : (s n : ℕ) → List ℕ

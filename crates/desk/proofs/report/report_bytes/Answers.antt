@@ -24,12 +24,14 @@ pub loop-station-preserved : goal.loop-station-preserved
 loop-station-preserved c =
     let t = c.args.check.now.book.terms in
     let rows = signature_in c.args.tally.now t.pages in
-    let same : c.loop-station.station ≡ c.loop-station.station + 1 - 1 = omega arith in
-    (omega arith, lines_turn t.pages (Bad c.args.stations rows) c.loop-station.station (c.loop-station.station + 1 - 1) (omega arith) same (vec_items c.loop-station.out)
-    c.loop-station.pages c.list.new.out c.in-Ok.count c.loop-station.invariant.1
-    (subst (λ M. Listed t.pages (Bad M rows c.loop-station.station) c.loop-station.pages c.list.new.out c.in-Ok.count) c.requires.stations c.in-Ok.ensures.1)
-    (vec_items c.extend_from_slice.new.self)
-    (c.in_ok-extend_from_slice.ensures.items ∙ ap (λ xs. vec_items c.loop-station.out ++ xs) (c.as_slice.ensures.value ∙ c.in_ok-lines.ensures)))
+    let same : c.loop-station.station ≡ c.loop-station.station + 1 - 1 = omega arith in (
+      omega arith,
+      lines_turn t.pages (Bad c.args.stations rows) c.loop-station.station (c.loop-station.station + 1 - 1) (omega arith) same (vec_items c.loop-station.out)
+          c.loop-station.pages c.list.new.out c.in-Ok.count c.loop-station.invariant.1
+          (subst (λ M. Listed t.pages (Bad M rows c.loop-station.station) c.loop-station.pages c.list.new.out c.in-Ok.count) c.requires.stations c.in-Ok.ensures.1)
+          (vec_items c.extend_from_slice.new.self)
+          (c.in_ok-extend_from_slice.ensures.items ∙ ap (λ xs. vec_items c.loop-station.out ++ xs) (c.as_slice.ensures.value ∙ c.in_ok-lines.ensures)),
+    )
 
 pub returns : goal.returns
 returns c =

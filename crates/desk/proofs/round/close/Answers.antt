@@ -20,9 +20,12 @@ card_of-card-requires-clause-station g c =
     let f = g.F.Field.ops in
     let w = subst (λ r. Weighing f c.args.check c.args.tally.now (Ok r) c.weigh.new.tally) c.in-Ok-Asks.field-0-is c.in-Ok-Asks.ensures in
     let k = c.in-Ok-Asks.again.phase.station in
-    omega (arith, c.station-station.ensures,
-    one_of f g.met.F.Field.lawful g.met.F.Field.spread c.requires.promise farm.stations farm.pages farm.bound c.args.words.now c.requires.whole c.args.check.book c.args.tally.now
-    c.requires.going.0 c.requires.going.1 k c.in-Ok-Asks.again.book c.weigh.new.tally w)
+    omega (
+      arith,
+      c.station-station.ensures,
+      one_of f g.met.F.Field.lawful g.met.F.Field.spread c.requires.promise farm.stations farm.pages farm.bound c.args.words.now c.requires.whole c.args.check.book c.args.tally.now
+          c.requires.going.0 c.requires.going.1 k c.in-Ok-Asks.again.book c.weigh.new.tally w,
+    )
 
 pub ask-requires : goal.ask-requires
 ask-requires g c =
@@ -41,7 +44,7 @@ unreachable-requires g c =
     let w = subst (λ r. Weighing f c.args.check c.args.tally.now (Ok r) c.weigh.new.tally) c.in-Ok-Asks.field-0-is c.in-Ok-Asks.ensures in
     let k = c.in-Ok-Asks.again.phase.station in
     let x = as_asked f farm.pages c.args.words.now c.card_of-card.result.words.now k c.station-station.result c.in-Ok-Asks.again.book c.weigh.new.tally c.ask.new.check.book c.ask.new.tally
-            c.station-station.ensures c.card_of-card.ensures c.ask.ensures.exchange in
+    c.station-station.ensures c.card_of-card.ensures c.ask.ensures.exchange in
     settles_ready f g.met.F.Field.lawful g.met.F.Field.spread c.requires.promise farm.stations farm.pages farm.bound c.args.words.now c.requires.whole c.args.check.book c.args.tally.now
     c.requires.going.0 c.requires.going.1 k c.in-Ok-Asks.again.book c.weigh.new.tally w c.ask.new.check.book c.ask.new.tally x c.in-Err-settle.field-0.refusal c.in-Err-settle.ensures.0.0
 
@@ -60,6 +63,6 @@ returns-in-Ok g c = λ before going.
     let w = subst (λ r. Weighing f c.args.check c.args.tally.now (Ok r) c.weigh.new.tally) c.in-Ok-Asks.field-0-is c.in-Ok-Asks.ensures in
     let k = c.in-Ok-Asks.again.phase.station in
     let x = as_asked f farm.pages c.args.words.now c.card_of-card.result.words.now k c.station-station.result c.in-Ok-Asks.again.book c.weigh.new.tally c.ask.new.check.book c.ask.new.tally
-            c.station-station.ensures c.card_of-card.ensures c.ask.ensures.exchange in
+    c.station-station.ensures c.card_of-card.ensures c.ask.ensures.exchange in
     by_settling f g.met.F.Field.lawful g.met.F.Field.spread c.requires.promise farm.stations farm.pages farm.bound c.args.words.now c.requires.whole c.args.check.book c.args.tally.now
     before going k c.in-Ok-Asks.again.book c.weigh.new.tally w c.ask.new.check.book c.ask.new.tally x c.in-Ok.closed.phase.verdict c.in-Ok.closed.book c.settle.new.tally c.in-Ok.ensures

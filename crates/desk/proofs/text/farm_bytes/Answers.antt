@@ -11,8 +11,8 @@ returns c =
     let same : vec_items c.in_ok-words.words ≡ c.args.signatures.now = search rules in
     let long : c.in_ok-tally.tally.len ≡ length after = c.in_ok-tally.tally.ok.0 ∙ ap length (sym c.as_mut_slice.ensures.value) ∙ sym c.check_cards.auto.tally in
     let there : c.as_slice-2.result.now ≡ after =
-        c.as_slice-2.ensures.value ∙ ap (λ n. take n (after ++ drop (length after) c.in_ok-tally.tally.items)) long
-        ∙ take-append_seam after (drop (length after) c.in_ok-tally.tally.items) in
+    c.as_slice-2.ensures.value ∙ ap (λ n. take n (after ++ drop (length after) c.in_ok-tally.tally.items)) long
+    ∙ take-append_seam after (drop (length after) c.in_ok-tally.tally.items) in
     farm_text farm.stations farm.pages farm.bound c.args.signatures.now _ (c.as_slice.ensures.value ∙ same) _ c.in-Ok.check.book c.in-Ok.check.phase.verdict after c.in-Ok.ensures.1
     (vec_items c.in_ok-out.out)
     (subst (λ tally. VerdictText farm.stations c.in-Ok.check.book.terms.pages tally c.in-Ok.check.phase.verdict (vec_items c.in_ok-out.out)) there c.in_ok-out.ensures)
