@@ -6,6 +6,8 @@ mod exchange;
 mod line;
 mod report;
 mod round;
+#[cfg(test)]
+mod tests;
 mod text;
 
 pub use round::check_cards;
