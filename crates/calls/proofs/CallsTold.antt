@@ -31,7 +31,8 @@ use Rattle.calls.proofs.ReplyInRow.{Tells, all_codes, tells_as, entered_tells, o
 use Rattle.calls.proofs.ReplyIn.{ReplyIn, out_lacks, in_before}
 use Rattle.calls.proofs.StandingsSet.{standing_other, standing_same}
 use Rattle.calls.proofs.Told.{Told, AskedAt, FirstsTold}
-use Rattle.calls.proofs.SumsAsked.{firsts_few, question_indices}
+use Rattle.calls.proofs.SumsAsked.{question_indices}
+use Rattle.calls.proofs.FirstSums.{first_sums_most}
 use Rattle.calls.proofs.Shapes.{StageAsks}
 
 module _ (f : Ops) (holds : ℕ → List ℕ) (t : Terms) (q : Question) (g : Stage) where
@@ -85,7 +86,7 @@ module _ (f : Ops) (holds : ℕ → List ℕ) (t : Terms) (q : Question) (g : St
       | yes e ↦ subst (λ s. Tells f (holds s) t.pages after Sums s 1 (first_sums t.stations t.bound)) (sym e) (lower a (h r.station within))
       | no d ↦
           others (holds s) Sums s 1 (first_sums t.stations t.bound) (omega arith) d
-          (λ i v. omega (arith, firsts_few t.stations t.bound t.stations_in.0 t.bound_in.1)) (h s w)
+          (λ i v. omega (arith, first_sums_most t.stations t.bound t.bound_in.0, t.bound_in.1)) (h s w)
     ]
     firsts_kept (closed v) a h = tt
 

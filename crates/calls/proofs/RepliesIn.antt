@@ -1,13 +1,14 @@
 -- How many stations stand with their reply in, and what one station's move changes of that.
-use Rattle.std.proofs.Common.{◌≡◌, ℕ, zero, suc, ◌+◌, ◌-◌, ◌<◌, ◌≤◌, List, length, set, refl, ap, ◌∙◌, arith}
+use Rattle.std.proofs.Common.{◌≡◌, ℕ, suc, ◌+◌, ◌-◌, ◌<◌, ◌≤◌, List, length, set, ap, ◌∙◌, arith}
 use Rattle.algebra.specs.Vectors.{Page}
 use Rattle.refusal.specs.Rules.{Within}
 use Rattle.scheme.specs.Farm.{count}
 use Rattle.scheme.specs.Four.{except}
-use Rattle.scheme.proofs.Counts.{count_same, count_le, count_except, except_same}
+use Rattle.scheme.proofs.Counts.{count_same, count_except, except_same}
 use Rattle.calls.specs.declared.standing.Standing.{Standing}
 use Rattle.calls.specs.declared.standing.Standing.TheVariants.{Free, Out, Heard, Done}
 use Rattle.calls.specs.Standings.{standing_of}
+use Rattle.calls.proofs.Totals.{count_none, count_ones, count_most}
 use Rattle.calls.proofs.StandingsSet.{standing_other, standing_same}
 
 -- 1 where a reply was taken
@@ -27,17 +28,8 @@ known_most Out = omega arith
 known_most Heard = omega arith
 known_most Done = omega arith
 
-count_ones : (k : ℕ) (e : ℕ → ℕ) → ((i : ℕ) → Page k i → e i ≡ 1) → count k e ≡ k
-count_ones zero e h = refl
-count_ones (suc k) e h = omega (arith, count_ones k e (λ i page. h i (omega arith)), h (suc k) (omega arith))
-
-count_none : (k : ℕ) (e : ℕ → ℕ) → ((i : ℕ) → e i ≡ 0) → count k e ≡ 0
-count_none zero e h = refl
-count_none (suc k) e h = omega (arith, count_none k e h, h (suc k))
-
 pub replies_in_most : (M : ℕ) (xs : List Standing) → replies_in M xs ≤ M - 1
-replies_in_most M xs =
-    omega (arith, count_le (M - 1) (λ i. known (standing_of xs (suc i))) (λ _. 1) (λ n _. known_most (standing_of xs (suc n))), count_ones (M - 1) (λ _. 1) (λ i page. refl))
+replies_in_most M xs = count_most (M - 1) (λ i. known (standing_of xs (suc i))) (λ i. known_most (standing_of xs (suc i)))
 
 -- one station moves
 pub replies_moved : (M : ℕ) (xs : List Standing) (s : ℕ) (x : Standing) → Within 2 M s → s < length xs

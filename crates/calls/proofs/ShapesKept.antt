@@ -1,10 +1,7 @@
 -- A check has the shape of its stage at every moment of every run.
-use Rattle.std.proofs.Common.{◌≡◌, ℕ, ◌≤◌, List, length, set, Ok, Err, sym, ap, ◌∙◌, subst, inl, inr, arith}
+use Rattle.std.proofs.Common.{◌≡◌, ℕ, List, length, set, Ok, Err, sym, ap, ◌∙◌, subst, arith}
 use Rattle.field.specs.Field.{Ops, Laws, Spread, page_limit}
 use Rattle.refusal.specs.Rules.{Within, Accepted}
-use Rattle.scheme.specs.Askings.{asks}
-use Rattle.scheme.proofs.AtLeastOne.{some_outcome}
-use Rattle.tally.specs.Rows.{sum_in, signature_in}
 use Rattle.calls.specs.declared.standing.Standing.{Standing}
 use Rattle.calls.specs.declared.standing.Standing.TheVariants.{Free, Out, Heard, Done}
 use Rattle.calls.specs.declared.terms.Terms.{Terms}
@@ -13,22 +10,15 @@ use Rattle.calls.specs.declared.book.Book.{Book}
 use Rattle.calls.specs.Questions.{PlainTerms, SecondAsks}
 use Rattle.calls.specs.Standings.{standing_of}
 use Rattle.calls.specs.Slips.{standing, standing_after, Keeps}
-use Rattle.calls.specs.Closing.{closing, WeighEnds}
+use Rattle.calls.specs.Closing.{closing}
 use Rattle.calls.specs.Runs.{Stage, first, second, closed, Call, Step, Run, slips, takes, returns, weigh_closes, weigh_asks, weigh_refused, settle_closes, settle_refused, lists, opened, called}
+use Rattle.calls.proofs.AsksOne.{asks_one}
 use Rattle.calls.proofs.Shapes.{StageAsks, OthersIn, Shape}
 use Rattle.calls.proofs.StandingsSet.{standing_other, not_done, done_if}
 
 -- where an asking ends every reply is in
 pub all_done : (b : Book) (room : ℕ) → Accepted (closing b room) → (s : ℕ) → Within 2 b.terms.stations s → standing b s ≡ Done
 all_done b room accepted s within = done_if (standing b s) (λ lacking. accepted.1.1.0 s (omega arith) (within, lacking))
-
--- only checks that are not plain ask a station again, and it is one of 2 .. M
-pub asks_one : (f : Ops) → Laws f → Spread f → (t : Terms) (tally : List ℕ) (k : ℕ) → t.pages ≤ f.places → WeighEnds f t tally (asks k)
-    → (¬ PlainTerms t) × Within 2 t.stations k
-asks_one f laws spread t tally k le (inl h) = absurd (let e = h.1 in cc)
-asks_one f laws spread t tally k le (inr w) =
-    let r = (some_outcome f laws spread t.stations t.pages t.bound t.stations_in.0 le (sum_in tally t.pages) (sum_in tally t.pages) (signature_in tally t.pages 1)).1 k w.1 in
-    (w.0, (r.0, r.1))
 
 module _ (f : Ops) where
   stays : {b b' : Book} {g : Stage} → b' ≡ b → Shape f b g → Shape f b' g
@@ -65,7 +55,7 @@ module _ (f : Ops) where
     step_kept (weigh_closes x) h =
         record { pages = subst (λ (b : Book). Within 1 (page_limit f) b.terms.pages) (sym x.book) h.pages; question = tt; others = tt }
     step_kept (weigh_asks {b = b} {b' = b'} {k = k} {t = t} x) h =
-        let asked : (¬ PlainTerms b.terms) × Within 2 b.terms.stations k = asks_one f laws spread b.terms t k (omega (arith, h.pages)) x.ends in
+        let asked : (¬ PlainTerms b.terms) × Within 2 b.terms.stations k = asks_one f laws spread b.terms h.pages.1 t k x.ends in
         record {
           pages = subst (λ (t : Terms). Within 1 (page_limit f) t.pages) (sym x.again.terms) h.pages;
           question =

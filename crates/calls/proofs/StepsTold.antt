@@ -19,7 +19,8 @@ use Rattle.calls.specs.Steady.{FarmHolds, copies, sums, Steady}
 use Rattle.calls.specs.Promise.{Judged}
 use Rattle.calls.proofs.Shapes.{Shape}
 use Rattle.calls.proofs.StandingsSet.{standing_other, standing_same}
-use Rattle.calls.proofs.ShapesKept.{all_done, asks_one, shape_kept}
+use Rattle.calls.proofs.ShapesKept.{all_done, shape_kept}
+use Rattle.calls.proofs.AsksOne.{asks_one}
 use Rattle.calls.proofs.ReplyIn.{free_lacks}
 use Rattle.calls.proofs.Told.{Told, Moment}
 use Rattle.calls.proofs.OpenedTold.{opened_told}
@@ -43,7 +44,7 @@ module _ (f : Ops) (l : Laws f) (spread : Spread f) (holds : ℕ → List ℕ) w
         asked = weigh_true f holds b.terms farm b.question b.standings tally shape.question told (all_done b (length tally) x.accepted) (asks k) x.ends
 
         within : Within 2 b.terms.stations k
-        within = (asks_one f l spread b.terms tally k (omega (arith, shape.pages)) x.ends).1
+        within = (asks_one f l spread b.terms shape.pages.1 tally k x.ends).1
 
         free : standing_of (set b.standings k Free) k ≡ Free
         free = standing_same b.standings k Free (omega (arith, within, b.full, b.terms.stations_in))

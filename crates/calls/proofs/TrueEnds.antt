@@ -29,11 +29,12 @@ use Rattle.calls.specs.Steady.{FarmHolds, copies, sums}
 use Rattle.calls.specs.Promise.{Judged}
 use Rattle.calls.proofs.ReplyInRow.{Tells, tells_as}
 use Rattle.calls.proofs.Told.{Told, FirstsTold}
-use Rattle.calls.proofs.SumsAsked.{firsts_among}
+use Rattle.calls.proofs.FirstSums.{firsts_among}
 use Rattle.calls.proofs.Shapes.{StageAsks}
 
-alike_asks : {M N i k : ℕ} → Alike M N (asks i) (asks k) → i ≡ k
-alike_asks same_station = refl
+-- of one station alone
+pub alike_asks : {M N k : ℕ} (o : Outcome) → Alike M N o (asks k) → o ≡ asks k
+alike_asks o same_station = refl
 
 module _ (f : Ops) (holds : ℕ → List ℕ) (t : Terms) where
   -- what an outcome says of the farm
@@ -129,8 +130,11 @@ module _ (f : Ops) (holds : ℕ → List ℕ) (t : Terms) where
       -- nobody else is asked again
       asked_one : (i : ℕ) → Weighs f t.stations t.pages t.bound (sum_in tally t.pages) (signature_in tally t.pages 1) (asks i) → i ≡ k
       asked_one i w =
-          alike_asks ((one_outcome f l spread t.stations t.pages t.bound (omega (arith, pages.1)) (sums f t.pages holds) (sums f t.pages holds) (copies holds 1)
+          let same =
+          alike_asks (asks i) ((one_outcome f l spread t.stations t.pages t.bound (omega (arith, pages.1)) (sums f t.pages holds) (sums f t.pages holds) (copies holds 1)
           (asks i) (asks k)).0 (weighs (asks i) w) judged.1)
+          in
+          cc
 
       more : Weighs f t.stations t.pages t.bound (sums f t.pages holds) (copies holds 1) (asks k) → t.stations ≡ 3
           → first_sums 3 t.bound < all_sums t.pages t.bound

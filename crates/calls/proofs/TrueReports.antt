@@ -1,12 +1,12 @@
 -- Where weighing and settling did what the rules say, and strays are few or the check is plain, what was found is right.
-use Rattle.std.proofs.Common.{◌≡◌, ℕ, zero, suc, ◌+◌, ◌≤◌, ◌≢◌, ◌⊎◌, List, sym, ◌∙◌, refl, subst, inl, inr, arith}
+use Rattle.std.proofs.Common.{◌≡◌, ℕ, ◌+◌, ◌≤◌, ◌≢◌, ◌⊎◌, List, sym, ◌∙◌, refl, subst, inl, inr, arith}
 use native.Mathlib.Decide.{ℕ_discrete}
 use Rattle.field.specs.Field.{Ops, Laws, Spread, page_limit}
 use Rattle.algebra.specs.Vectors.{Page}
 use Rattle.refusal.specs.Rules.{Within}
 use Rattle.scheme.specs.Farm.{Table, Same, Majority, Decided, Bad, strays, count, agree}
 use Rattle.scheme.specs.Theorem.{Told, Finds}
-use Rattle.scheme.proofs.Counts.{count_le, count_add, agree_most, agree_apart}
+use Rattle.scheme.proofs.Counts.{count_add, agree_most, agree_apart}
 use Rattle.scheme.proofs.Tables.{bad_same}
 use Rattle.scheme.proofs.Truth.{right}
 use Rattle.tally.specs.Rows.{signature_in}
@@ -17,6 +17,7 @@ use Rattle.calls.specs.Questions.{PlainTerms}
 use Rattle.calls.specs.Runs.{Stage, first, second, closed}
 use Rattle.calls.specs.Steady.{FarmHolds, copies, sums}
 use Rattle.calls.specs.Promise.{Judged, Differs, Right}
+use Rattle.calls.proofs.Totals.{count_most}
 
 -- lists of the same pages
 pub lists_as : (N : ℕ) (Q P : ℕ → Type 0) → ((n : ℕ) → Page N n → Q n → P n) → ((n : ℕ) → Page N n → P n → Q n) → (xs : List ℕ) → Lists N Q xs → Lists N P xs
@@ -32,10 +33,6 @@ listed_as N Q P to from before after count x =
     record { listed = x.listed; lists = lists_as N Q P to from x.listed x.lists; size = x.size; room = x.room; written = x.written }
 
 -- ── majorities
-count_ones : (k : ℕ) → count k (λ _. 1) ≡ k
-count_ones zero = refl
-count_ones (suc k) = let ih = count_ones k in omega arith
-
 agree_once : (a v w : ℕ) → v ≢ w → agree a v + agree a w ≤ 1
 agree_once a v w apart = elim (ℕ_discrete a v) [
   | yes e ↦ omega (arith, agree_most a v, agree_apart a w (λ x. apart (sym e ∙ x)))
@@ -48,9 +45,9 @@ module _ (M : ℕ) (P : Table) (n : ℕ) where
   one_majority v w a b = elim (ℕ_discrete v w) [
     | yes e ↦ e
     | no d ↦
-        let most = count_le M (λ s. agree (P s n) v + agree (P s n) w) (λ _. 1) (λ s _. agree_once (P s n) v w d) in
+        let most = count_most M (λ s. agree (P s n) v + agree (P s n) w) (λ s. agree_once (P s n) v w d) in
         let both = count_add M (λ s. agree (P s n) v) (λ s. agree (P s n) w) in
-        absurd (omega (arith, a, b, most, both, count_ones M))
+        absurd (omega (arith, a, b, most, both))
   ]
 
   -- on a page with a majority a copy is bad where it differs from it

@@ -1,6 +1,6 @@
 use Rattle.std.proofs.Common.{◌≡◌, ◌+◌, ◌-◌, get_or, refl, ap, arith}
 use Rattle.link.specs.Words.{value_of}
-use Rattle.calls.proofs.ValuesPlaced.{none_placed, one_placed, all_placed, indices_apart}
+use Rattle.calls.proofs.ValuesPlaced.{none_placed, one_placed, all_placed}
 use Rattle.calls.proofs.entering.enter_values.Goals as goal
 
 pub loop-k-init : goal.loop-k-init
@@ -12,8 +12,7 @@ loop-k-preserved c =
     let k = c.loop-k.k in
     let at : k ≡ q.first + k - q.first = omega arith in
     all_placed
-    (one_placed c.loop-k.invariant (omega arith)
-    (λ i here below. indices_apart q.asked c.args.pages q.station i (q.first + k) (omega (arith, c.requires.from)) below)
+    (one_placed q.asked c.args.pages q.station c.loop-k.invariant c.requires.from (omega arith)
     (ap (λ i. value_of (get_or c.args.values.now i 0)) at) c.enter.ensures)
     (omega arith) refl
 

@@ -1,6 +1,6 @@
 use Rattle.std.proofs.Common.{refl, arith}
 use Rattle.link.specs.declared.asked.Asked.TheVariants.{Signatures}
-use Rattle.calls.proofs.ValuesPlaced.{none_placed, one_placed, all_placed, indices_apart}
+use Rattle.calls.proofs.ValuesPlaced.{none_placed, one_placed, all_placed}
 use Rattle.calls.proofs.entering.fill_signatures.Goals as goal
 
 pub loop-page-init : goal.loop-page-init
@@ -9,7 +9,7 @@ loop-page-init g c = (omega arith, none_placed)
 pub loop-page-preserved : goal.loop-page-preserved
 loop-page-preserved g c = (
   omega arith,
-  one_placed c.loop-page.invariant.1 (omega arith) (λ k. indices_apart Signatures c.args.pages 1 k c.loop-page.page) c.own_signature-signature.ensures c.put_signature.ensures,
+  one_placed Signatures c.args.pages 1 c.loop-page.invariant.1 (omega arith) (omega arith) c.own_signature-signature.ensures c.put_signature.ensures,
 )
 
 pub returns : goal.returns
@@ -18,5 +18,5 @@ returns g c = all_placed c.loop-page.invariant.1 (omega arith) refl
 pub returns-2 : goal.returns-2
 returns-2 g c =
     all_placed
-    (one_placed c.loop-page.invariant.1 (omega arith) (λ k. indices_apart Signatures c.args.pages 1 k c.loop-page.page) c.own_signature-signature.ensures c.put_signature.ensures)
+    (one_placed Signatures c.args.pages 1 c.loop-page.invariant.1 (omega arith) (omega arith) c.own_signature-signature.ensures c.put_signature.ensures)
     (omega arith) refl
