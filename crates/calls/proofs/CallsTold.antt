@@ -1,6 +1,5 @@
 -- Slips handed out, replies taken and slips returned keep what the tally tells.
-use Rattle.std.proofs.Common.{◌≡◌, ℕ, ◌≤◌, ◌≢◌, List, length, set, Ok, Err, Option, Result, sym, ◌∙◌, subst, subst₂, refl, arith}
-use Rattle.std.proofs.lemmas.List.{length-set}
+use Rattle.std.proofs.Common.{◌≡◌, ℕ, ◌≤◌, ◌<◌, ◌≢◌, List, length, set, Ok, Err, Option, Result, sym, ap, ◌∙◌, subst, refl, arith}
 use native.Mathlib.Decide.{ℕ_discrete}
 use Rattle.field.specs.Field.{Ops, Laws}
 use Rattle.field.specs.Sums.{entry}
@@ -21,38 +20,33 @@ use Rattle.calls.specs.declared.question.Question.{Question}
 use Rattle.calls.specs.declared.book.Book.{Book}
 use Rattle.calls.specs.declared.slip.Slip.{Slip}
 use Rattle.calls.specs.declared.slip.Returned.{Returned}
-use Rattle.calls.specs.Standings.{standing_of, SlipOut}
+use Rattle.calls.specs.Standings.{standing_of}
 use Rattle.calls.specs.Entering.{Entered}
 use Rattle.calls.specs.Slips.{Slips, Takes, Returns, standing, standing_after}
 use Rattle.calls.specs.Runs.{Stage, first, second, closed, AsksOnly}
 use Rattle.calls.specs.Steady.{FarmHolds}
 use Rattle.calls.proofs.Indices.{Index, Indices, index_inside}
 use Rattle.calls.proofs.ReplyInRow.{Tells, all_codes, tells_as, entered_tells, others_tell, lower_tell}
-use Rattle.calls.proofs.ReplyIn.{ReplyIn, out_lacks, in_before}
-use Rattle.calls.proofs.StandingsSet.{standing_other, standing_same}
-use Rattle.calls.proofs.Told.{Told, AskedAt, FirstsTold}
+use Rattle.calls.proofs.RepliesIn.{reply_in, reply_stays}
+use Rattle.calls.proofs.StandingsSet.{standing_other, standing_same, place_inside, not_free}
+use Rattle.calls.proofs.Told.{Told, FirstsTold}
 use Rattle.calls.proofs.SumsAsked.{question_indices}
 use Rattle.calls.proofs.FirstSums.{first_sums_most}
-use Rattle.calls.proofs.Shapes.{StageAsks}
+use Rattle.calls.proofs.Shapes.{StageAsks, AskedAt, Shape}
 
 module _ (f : Ops) (holds : ℕ → List ℕ) (t : Terms) (q : Question) (g : Stage) where
   -- a station moves
-  moved : (xs : List Standing) (tally : List ℕ) (s : ℕ) (x : Standing) → Told f holds t q xs g tally → Within 2 t.stations s
-      → (AskedAt g s → ReplyIn x → Tells f (holds s) t.pages tally q.asked s q.first q.last) → Told f holds t q (set xs s x) g tally
-  moved xs tally s x told within here = record {
+  moved : {xs ys : List Standing} {tally : List ℕ} (s : ℕ) (x : Standing) → ys ≡ set xs s x → s < length xs → Told f holds t q xs g tally
+      → (AskedAt g s → reply_in x ≡ 1 → Tells f (holds s) t.pages tally q.asked s q.first q.last) → Told f holds t q ys g tally
+  moved {xs} {ys} {tally} s x is inside told here = record {
     room = told.room;
     own = told.own;
     own_sums = told.own_sums;
-    full = length-set xs s x ∙ told.full;
-    outs = λ u h. elim (ℕ_discrete u s) [
-      | yes e ↦ subst (Within 2 t.stations) (sym e) within
-      | no d ↦ told.outs u (subst SlipOut (standing_other xs s u x d) h)
-    ];
     replies = λ u w a h. elim (ℕ_discrete u s) [
       | yes e ↦
-          subst (λ u. AskedAt g u → ReplyIn (standing_of (set xs s x) u) → Tells f (holds u) t.pages tally q.asked u q.first q.last) (sym e)
-          (λ a h. here a (subst ReplyIn (standing_same xs s x (omega (arith, told.full, t.stations_in.1))) h)) a h
-      | no d ↦ told.replies u w a (subst ReplyIn (standing_other xs s u x d) h)
+          subst (λ u. AskedAt g u → reply_in (standing_of ys u) ≡ 1 → Tells f (holds u) t.pages tally q.asked u q.first q.last) (sym e)
+          (λ a h. here a (sym (ap reply_in (standing_same xs s x is inside)) ∙ h)) a h
+      | no d ↦ told.replies u w a (sym (ap reply_in (standing_other xs s x is u d)) ∙ h)
     ];
     firsts = told.firsts;
   }
@@ -95,8 +89,6 @@ module _ (f : Ops) (holds : ℕ → List ℕ) (t : Terms) (q : Question) (g : St
       room = omega (arith, told.room, entered.size);
       own = others (holds 1) Signatures 1 1 t.pages (omega arith) (omega arith) (λ i w. omega arith) told.own;
       own_sums = others (holds 1) Sums 1 1 (all_sums t.pages t.bound) (omega arith) (omega arith) (λ i w. omega (arith, t.bound_in.1)) told.own_sums;
-      full = told.full;
-      outs = told.outs;
       replies = λ s w a h. elim (ℕ_discrete s r.station) [
         | yes e ↦ subst (λ s. AskedAt g s → Tells f (holds s) t.pages after q.asked s q.first q.last) (sym e) here a
         | no d ↦ others (holds s) q.asked s q.first q.last (omega arith) d (question_indices t q g only opens asks) (told.replies s w a h)
@@ -105,30 +97,31 @@ module _ (f : Ops) (holds : ℕ → List ℕ) (t : Terms) (q : Question) (g : St
     }
 
 -- ── calls
-module _ (f : Ops) (l : Laws f) (holds : ℕ → List ℕ) (b : Book) (farm : FarmHolds f b.terms.stations b.terms.pages holds) (g : Stage) (tally : List ℕ) where
+module _ (f : Ops) (l : Laws f) (holds : ℕ → List ℕ) (b : Book) (farm : FarmHolds f b.terms.stations b.terms.pages holds) (g : Stage) (shape : Shape f b g)
+    (tally : List ℕ) where
   abbrev After : Book → (tally : List ℕ) → Type 0
   After b' after = Told f holds b.terms b'.question b'.standings g after
 
   pub slips_told : (only : Option ℕ) (s : ℕ) (words words' : List ℕ) (r : Result Slip Refusal) (b' : Book) → Slips b only s words r b' words'
       → After b tally → After b' tally
   slips_told only s words words' (Ok p) b' (a, h) told =
-      subst₂ (λ q xs. Told f holds b.terms q xs g tally) (sym h.keeps.question) (sym h.standings)
-      (moved f holds b.terms b.question g b.standings tally s Out told a.1.0 (λ _ r. absurd (out_lacks Out refl r)))
+      subst (λ q. Told f holds b.terms q b'.standings g tally) (sym h.keeps.question)
+      (moved f holds b.terms b.question g s Out h.standings (place_inside b s a.1.0) told (λ _ r. absurd (omega arith)))
   slips_told only s words words' (Err e) b' h told = subst (λ b'. After b' tally) (sym h.1) told
 
-  pub takes_told : (only : Option ℕ) → AsksOnly g only → StageAsks b.terms g b.question → (q : Request) (after : List ℕ) (u : Unit {0}) (b' : Book)
+  pub takes_told : (only : Option ℕ) → AsksOnly g only → (q : Request) (after : List ℕ) (u : Unit {0}) (b' : Book)
       → Takes f b q (reply_words q (answers f (holds q.station) q)) tally (Ok u) b' after → After b tally → After b' after
-  takes_told only o asks q after u b' (a, h) told =
-      subst₂ (λ q xs. Told f holds b.terms q xs g after) (sym h.keeps.question) (sym h.standings)
-      (moved f holds b.terms b.question g b.standings after q.station Heard
-      (entered_told f holds b.terms b.question g only o asks b.standings q same h.values tally after h.reply.count h.entered told within (λ _. here))
-      within (λ _ _. here))
+  takes_told only o q after u b' (a, h) told =
+      subst (λ q. Told f holds b.terms q b'.standings g after) (sym h.keeps.question)
+      (moved f holds b.terms b.question g q.station Heard h.standings (place_inside b q.station within)
+      (entered_told f holds b.terms b.question g only o shape.question b.standings q same h.values tally after h.reply.count h.entered told within (λ _. here))
+      (λ _ _. here))
     where
       same : (q.asked ≡ b.question.asked) × (q.first ≡ b.question.first) × (q.last ≡ b.question.last)
       same = (a.1.0.0.2, a.1.0.0.3, a.1.0.0.4)
 
       within : Within 2 b.terms.stations q.station
-      within = told.outs q.station a.1.0.1
+      within = shape.stations q.station (not_free (standing b q.station) a.1.0.1)
 
       codes : Codes f (length (holds q.station)) (entry (holds q.station))
       codes = subst (λ n. Codes f n (entry (holds q.station))) (sym (farm.pages q.station (omega (arith, within)))) (farm.codes q.station (omega (arith, within)))
@@ -139,12 +132,14 @@ module _ (f : Ops) (l : Laws f) (holds : ℕ → List ℕ) (b : Book) (farm : Fa
           same.0 same.1 same.2
           (entered_tells f l (holds q.station) (all_codes f l (holds q.station) codes) q b.terms.pages h.values tally after h.reply h.entered
           (λ i w. index_inside q.asked b.terms.stations b.terms.pages q.station i (length tally) (omega (arith, within)) within.1 told.room
-          (subst (λ a. Index a b.terms.pages i) (sym same.0) (question_indices b.terms b.question g only o asks i (omega arith)))))
+          (subst (λ a. Index a b.terms.pages i) (sym same.0) (question_indices b.terms b.question g only o shape.question i (omega arith)))))
 
   pub returns_told : (q : Request) (r : Result Returned Refusal) (b' : Book) → Returns b q r b' → After b tally → After b' tally
   returns_told q (Ok r) b' (a, h) told =
-      let within = told.outs q.station a.0.1 in
-      subst₂ (λ q xs. Told f holds b.terms q xs g tally) (sym h.keeps.question) (sym h.standings)
-      (moved f holds b.terms b.question g b.standings tally q.station (standing_after r) told within
-      (λ asked r_in. told.replies q.station within asked (in_before (standing b q.station) (subst (λ r. ReplyIn (standing_after r)) h.says r_in))))
+      let out = a.0.1 in
+      let x = standing b q.station in
+      let within = shape.stations q.station (not_free x out) in
+      subst (λ q. Told f holds b.terms q b'.standings g tally) (sym h.keeps.question)
+      (moved f holds b.terms b.question g q.station (standing_after r) h.standings (place_inside b q.station within) told
+      (λ asked r_in. told.replies q.station within asked (reply_stays x r out h.says ∙ r_in)))
   returns_told q (Err e) b' h told = subst (λ b'. After b' tally) (sym h.1) told

@@ -9,10 +9,8 @@ pub mod FirstSums
 pub mod Indices
 pub mod LowestStations
 pub mod MostTaken
-pub mod OnlyAsked
 pub mod OpenedTold
 pub mod RepliesIn
-pub mod ReplyIn
 pub mod ReplyInRow
 pub mod RowsOpened
 pub mod Shapes

@@ -10,7 +10,7 @@ use Rattle.calls.specs.Slips.{standing}
 use Rattle.calls.specs.Promise.{most_taken}
 use Rattle.calls.specs.Runs.{Stage, first, second, closed}
 use Rattle.calls.proofs.Shapes.{Shape}
-use Rattle.calls.proofs.RepliesIn.{known, known_most, replies_in, replies_in_most}
+use Rattle.calls.proofs.RepliesIn.{reply_in, reply_in_most, replies_in, replies_in_most}
 use Rattle.calls.proofs.MostTaken.{most_pages, most_sums}
 use Rattle.calls.proofs.TakenPerSlip.{per_reply}
 
@@ -25,7 +25,7 @@ all_first t = first_sums t.stations t.bound * (t.stations - 1)
 -- each reply that is in, of the first asking and of the second, has as many values as its question is for
 abbrev pub TakenBy : Book → Stage → Type 0
 TakenBy b first = b.counts.taken ≡ per_reply b.question * replies_in b.terms.stations b.standings
-TakenBy b (second k) = b.counts.taken ≡ all_first b.terms + per_reply b.question * known (standing b k)
+TakenBy b (second k) = b.counts.taken ≡ all_first b.terms + per_reply b.question * reply_in (standing b k)
 TakenBy b (closed v) = b.counts.taken ≤ most_of b.terms
 
 -- what the questions are for, as a number
@@ -65,7 +65,7 @@ taken_few f b (second k) shape taken =
       arith,
       taken,
       second_due t b.question shape.question.2,
-      mul-le-mul_left (per_reply b.question) (known_most (standing b k)),
+      mul-le-mul_left (per_reply b.question) (reply_in_most (standing b k)),
       most_sums t.stations t.pages t.bound t.stations_in.0 t.bound_in.0 shape.question.0,
     )
 taken_few f b (closed v) shape taken = taken
