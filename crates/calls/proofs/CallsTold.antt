@@ -26,12 +26,12 @@ use Rattle.calls.specs.Slips.{Slips, Takes, Returns, standing, standing_after}
 use Rattle.calls.specs.Runs.{Stage, first, second, closed, AsksOnly}
 use Rattle.calls.specs.Steady.{FarmHolds}
 use Rattle.calls.proofs.Indices.{Index, Indices, index_inside}
-use Rattle.calls.proofs.ReplyInRow.{Tells, all_codes, tells_as, entered_tells, others_tell, lower_tell}
+use Rattle.calls.proofs.RowTells.{Tells, all_codes, tells_as, entered_tells, others_tell, lower_tell}
 use Rattle.calls.proofs.RepliesIn.{reply_in, reply_stays}
 use Rattle.calls.proofs.StandingsSet.{standing_other, standing_same, place_inside, not_free}
 use Rattle.calls.proofs.Told.{Told, FirstsTold}
-use Rattle.calls.proofs.SumsAsked.{question_indices}
-use Rattle.calls.proofs.FirstSums.{first_sums_most}
+use Rattle.calls.proofs.IndicesAsked.{question_indices}
+use Rattle.calls.proofs.FirstSums.{first_sums_between}
 use Rattle.calls.proofs.Shapes.{StageAsks, AskedAt, Shape}
 
 module _ (f : Ops) (holds : ℕ → List ℕ) (t : Terms) (q : Question) (g : Stage) where
@@ -80,7 +80,7 @@ module _ (f : Ops) (holds : ℕ → List ℕ) (t : Terms) (q : Question) (g : St
       | yes e ↦ subst (λ s. Tells f (holds s) t.pages after Sums s 1 (first_sums t.stations t.bound)) (sym e) (lower a (h r.station within))
       | no d ↦
           others (holds s) Sums s 1 (first_sums t.stations t.bound) (omega arith) d
-          (λ i v. omega (arith, first_sums_most t.stations t.bound t.bound_in.0, t.bound_in.1)) (h s w)
+          (λ i v. omega (arith, first_sums_between t.stations t.bound t.bound_in.0, t.bound_in.1)) (h s w)
     ]
     firsts_kept (closed v) a h = tt
 

@@ -5,7 +5,7 @@ use native.Mathlib.Decide.{ℕ_discrete}
 use borrow.Author.Tests.{ne_eqb}
 use Rattle.scheme.specs.Askings.{first_sums, all_sums, Plain}
 use Rattle.calls.specs.Promise.{most_taken}
-use Rattle.calls.proofs.FirstSums.{first_sums_more, first_sums_most, plain_short, not_plain_long}
+use Rattle.calls.proofs.FirstSums.{first_sums_more, first_sums_between, plain_short, not_plain_long}
 
 module _ (M N bound : ℕ) where
   -- one sum for every number of stations: all but two tell the first sums, one of these tells all
@@ -26,11 +26,11 @@ module _ (M N bound : ℕ) where
   pub most_pages : 3 ≤ M → 1 ≤ bound → Plain M N bound → N * (M - 1) ≤ most_taken M N bound
   most_pages three some plain =
       let short : min N (first_sums M bound) ≡ N = omega (arith, plain_short M N bound plain) in
-      omega (arith, one_more N three, most_is, ap (λ h. (M - 2) * h) short, plain_short M N bound plain, first_sums_most M bound some)
+      omega (arith, one_more N three, most_is, ap (λ h. (M - 2) * h) short, plain_short M N bound plain, first_sums_between M bound some)
 
   -- the first sums of every station, and what is left of one
   pub most_sums : 3 ≤ M → 1 ≤ bound → ¬ Plain M N bound → first_sums M bound * (M - 1) + (all_sums N bound - first_sums M bound) ≤ most_taken M N bound
   most_sums three some off =
       let h = first_sums M bound in
       let long : min N h ≡ h = omega (arith, not_plain_long M N bound three off) in
-      omega (arith, one_more h three, most_is, ap (λ x. (M - 2) * x) long, not_plain_long M N bound three off, first_sums_most M bound some)
+      omega (arith, one_more h three, most_is, ap (λ x. (M - 2) * x) long, not_plain_long M N bound three off, first_sums_between M bound some)

@@ -9,7 +9,7 @@ use Rattle.calls.specs.declared.book.Book.{Book}
 use Rattle.calls.specs.Entering.{RowsOpened}
 use Rattle.calls.specs.Opening.{Opens}
 use Rattle.calls.specs.Runs.{first}
-use Rattle.calls.proofs.ReplyInRow.{Tells}
+use Rattle.calls.proofs.RowTells.{Tells}
 use Rattle.calls.proofs.Told.{Told}
 use Rattle.calls.proofs.RepliesIn.{reply_in}
 use Rattle.calls.proofs.StandingsSet.{standing_start}

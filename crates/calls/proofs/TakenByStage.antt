@@ -12,7 +12,7 @@ use Rattle.calls.specs.Runs.{Stage, first, second, closed}
 use Rattle.calls.proofs.Shapes.{Shape}
 use Rattle.calls.proofs.RepliesIn.{reply_in, reply_in_most, replies_in, replies_in_most}
 use Rattle.calls.proofs.MostTaken.{most_pages, most_sums}
-use Rattle.calls.proofs.TakenPerSlip.{per_reply}
+use Rattle.calls.proofs.ValuesPerReply.{per_reply}
 
 -- the most that a check on these terms takes
 abbrev pub most_of : Terms → ℕ

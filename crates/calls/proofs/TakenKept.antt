@@ -21,7 +21,7 @@ use Rattle.calls.proofs.Shapes.{Shape}
 use Rattle.calls.proofs.ShapesKept.{shape_kept, all_done}
 use Rattle.calls.proofs.StandingsSet.{place_inside, standing_other, standing_same, standing_start, not_free, free_if, out_if}
 use Rattle.calls.proofs.RepliesIn.{reply_in, reply_stays, replies_in, replies_moved, no_replies_in, all_replies_in}
-use Rattle.calls.proofs.TakenPerSlip.{per_reply, values_per_reply}
+use Rattle.calls.proofs.ValuesPerReply.{per_reply, values_per_reply}
 use Rattle.calls.proofs.TakenByStage.{most_of, all_first, TakenBy, first_due, taken_few}
 
 -- ── one station moves, and the terms and the question stay

@@ -13,7 +13,7 @@ use Rattle.calls.specs.Runs.{Stage, first, second, closed}
 use Rattle.calls.specs.Promise.{Judged}
 use Rattle.calls.proofs.Shapes.{AskedAt}
 use Rattle.calls.proofs.RepliesIn.{reply_in}
-use Rattle.calls.proofs.ReplyInRow.{Tells}
+use Rattle.calls.proofs.RowTells.{Tells}
 
 module _ (f : Ops) (holds : ℕ → List ℕ) (t : Terms) where
   -- in the second asking the first sums of all stations are told

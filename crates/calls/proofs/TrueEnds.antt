@@ -27,7 +27,7 @@ use Rattle.calls.specs.Closing.{WeighEnds, SettleEnds, Finds}
 use Rattle.calls.specs.Runs.{first, second, closed}
 use Rattle.calls.specs.Steady.{FarmHolds, copies, sums}
 use Rattle.calls.specs.Promise.{Judged}
-use Rattle.calls.proofs.ReplyInRow.{Tells, tells_as}
+use Rattle.calls.proofs.RowTells.{Tells, tells_as}
 use Rattle.calls.proofs.Told.{Told, FirstsTold}
 use Rattle.calls.proofs.FirstSums.{firsts_among}
 use Rattle.calls.proofs.RepliesIn.{reply_in}
@@ -60,9 +60,6 @@ module _ (f : Ops) (holds : ℕ → List ℕ) (t : Terms) where
     told_sum s from to j a tells w = tells j w ∙ ap (λ n. power_sum f n (entry (holds s)) j) (farm.pages s a)
 
     module _ (own : Tells f (holds 1) t.pages tally Signatures 1 1 t.pages) (own_sums : Tells f (holds 1) t.pages tally Sums 1 1 (all_sums t.pages t.bound)) where
-      own_row : (n : ℕ) → Page t.pages n → signature_in tally t.pages 1 n ≡ copies holds 1 n
-      own_row n p = own n p
-
       module _ (not : ¬ PlainTerms t) (k : ℕ) (firsts : FirstsTold f holds t (second k) tally) where
         first_sums_told : (s j : ℕ) → Station t.stations s → Page (first_sums t.stations t.bound) j → sum_in tally t.pages s j ≡ sums f t.pages holds s j
         first_sums_told s j a p = elim (ℕ_discrete s 1) [
@@ -77,7 +74,7 @@ module _ (f : Ops) (holds : ℕ → List ℕ) (t : Terms) where
             → Weighs f t.stations t.pages t.bound (sums f t.pages holds) (copies holds 1) o
         true_weighs =
             weighs_depends f t.stations t.pages t.bound (sum_in tally t.pages) (sums f t.pages holds) (signature_in tally t.pages 1) (copies holds 1)
-            first_sums_told own_row
+            first_sums_told own
 
   -- ── weighing
   module _ (farm : FarmHolds f t.stations t.pages holds) (q : Question) (xs : List Standing) (tally : List ℕ) where
@@ -146,7 +143,7 @@ module _ (f : Ops) (holds : ℕ → List ℕ) (t : Terms) where
           → Settles f t.stations t.pages t.bound (sums f t.pages holds) (sums f t.pages holds) (copies holds 1) o
       settles =
           settles_depends f t.stations t.pages t.bound (sum_in tally t.pages) (sums f t.pages holds) (signature_in tally t.pages 1) (copies holds 1)
-          (first_sums_told farm tally told.own told.own_sums a.0 k told.firsts) (own_row farm tally told.own told.own_sums) (more judged.1)
+          (first_sums_told farm tally told.own told.own_sums a.0 k told.firsts) told.own (more judged.1)
           (sum_in tally t.pages) (sums f t.pages holds)
           (λ j p. told_sum farm tally 1 1 (all_sums t.pages t.bound) j (omega (arith, t.stations_in.0)) told.own_sums (omega arith))
           (λ i j w p. subst (λ i. sum_in tally t.pages i j ≡ sums f t.pages holds i j) (sym (asked_one i w)) (all_told j p))

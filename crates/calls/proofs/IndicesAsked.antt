@@ -1,11 +1,11 @@
--- What the question of an asking is for, may be asked for.
+-- What the question of an asking is for may be asked for.
 use Rattle.std.proofs.Common.{◌≡◌, ℕ, Option, sym, subst, inl, inr, arith}
 use Rattle.link.specs.declared.asked.Asked.{Asked}
 use Rattle.link.specs.declared.asked.Asked.TheVariants.{Sums, Signatures}
 use Rattle.calls.specs.declared.terms.Terms.{Terms}
 use Rattle.calls.specs.declared.question.Question.{Question}
 use Rattle.calls.specs.Runs.{Stage, first, second, closed, AsksOnly}
-use Rattle.calls.proofs.FirstSums.{first_sums_most}
+use Rattle.calls.proofs.FirstSums.{first_sums_between}
 use Rattle.calls.proofs.Indices.{Index, Indices}
 use Rattle.calls.proofs.Shapes.{StageAsks}
 
@@ -17,7 +17,7 @@ pub question_indices : (t : Terms) (q : Question) (g : Stage) (only : Option ℕ
 question_indices t q first only o (inl (plain, about)) = indices_of q.asked Signatures t.pages q.first q.last about.0 (λ i w. omega (arith, about.1, about.2))
 question_indices t q first only o (inr (not, about)) =
     indices_of q.asked Sums t.pages q.first q.last about.0
-    (λ i w. omega (arith, about.1, about.2, first_sums_most t.stations t.bound t.bound_in.0, t.bound_in.1))
+    (λ i w. omega (arith, about.1, about.2, first_sums_between t.stations t.bound t.bound_in.0, t.bound_in.1))
 question_indices t q (second k) only o (not, station, about) =
     indices_of q.asked Sums t.pages q.first q.last about.0 (λ i w. omega (arith, about.1, about.2, t.bound_in.1))
 question_indices t q (closed v) only o h = absurd o
