@@ -3,7 +3,7 @@ pub mod BadPages
 pub mod CallsAdded
 pub mod CallsTold
 pub mod Counted
-pub mod CountsFit
+pub mod TakenFits
 pub mod EndingsFound
 pub mod EveryRun
 pub mod FirstSums
@@ -26,4 +26,3 @@ pub mod Totals
 pub mod TrueEnds
 pub mod TrueReports
 pub mod ValuesPerReply
-pub mod ValuesPlaced

@@ -1,6 +1,6 @@
 use Rattle.std.proofs.Common.{refl, arith}
 use Rattle.std.proofs.lemmas.Result.{err_from_is_err_and}
-use Rattle.calls.proofs.CountsFit.{taken_fits}
+use Rattle.calls.proofs.TakenFits.{taken_fits}
 use Rattle.calls.proofs.book.Book.take_in.Goals as goal
 
 pub returns-in_err-values : goal.returns-in_err-values
