@@ -1,5 +1,5 @@
 -- Slips handed out, replies taken and slips returned keep what the tally tells.
-use Rattle.std.proofs.Common.{◌≡◌, ℕ, ◌≤◌, ◌<◌, ◌≢◌, List, length, set, Ok, Err, Option, Result, sym, ap, ◌∙◌, subst, refl, arith}
+use Rattle.std.proofs.Common.{◌≡◌, ℕ, ◌≤◌, ◌<◌, ◌≢◌, List, length, set, Ok, Err, Option, Result, sym, ap, ◌∙◌, subst, arith}
 use native.Mathlib.Decide.{ℕ_discrete}
 use Rattle.field.specs.Field.{Ops, Laws}
 use Rattle.field.specs.Sums.{entry}
@@ -25,12 +25,12 @@ use Rattle.calls.specs.Entering.{Entered}
 use Rattle.calls.specs.Slips.{Slips, Takes, Returns, standing, standing_after}
 use Rattle.calls.specs.Runs.{Stage, first, second, closed, AsksOnly}
 use Rattle.calls.specs.Steady.{FarmHolds}
-use Rattle.calls.proofs.Indices.{Index, Indices, index_inside}
+use Rattle.calls.proofs.Indices.{Indices, index_inside}
 use Rattle.calls.proofs.RowTells.{Tells, all_codes, tells_as, entered_tells, others_tell, lower_tell}
 use Rattle.calls.proofs.RepliesIn.{reply_in, reply_stays}
 use Rattle.calls.proofs.StandingsSet.{standing_other, standing_same, place_inside, not_free}
 use Rattle.calls.proofs.Told.{Told, FirstsTold}
-use Rattle.calls.proofs.IndicesAsked.{question_indices}
+use Rattle.calls.proofs.IndicesAsked.{question_indices, request_indices}
 use Rattle.calls.proofs.FirstSums.{first_sums_between}
 use Rattle.calls.proofs.Shapes.{StageAsks, AskedAt, Shape}
 
@@ -56,23 +56,18 @@ module _ (f : Ops) (holds : ℕ → List ℕ) (t : Terms) (q : Question) (g : St
   module _ (xs : List Standing) (r : Request) (same : (r.asked ≡ q.asked) × (r.first ≡ q.first) × (r.last ≡ q.last)) (values before after : List ℕ)
       (count : length values ≡ values_due r) (entered : Entered t.pages r values before after) (told : Told f holds t q xs g before)
       (within : Within 2 t.stations r.station) where
-    asked_in : Indices r.asked t.pages r.first r.last
-    asked_in i w = subst (λ a. Index a t.pages i) (sym same.0) (question_indices t q g only opens asks i (omega arith))
-
     others : (row : List ℕ) (asked : Asked) (s from to : ℕ) → 1 ≤ s → s ≢ r.station → Indices asked t.pages from to
         → Tells f row t.pages before asked s from to → Tells f row t.pages after asked s from to
     others row asked s from to lo apart in_range =
-        others_tell f t.pages r values before after count entered row asked s from to lo (omega arith) apart in_range asked_in
+        others_tell f t.pages r values before after count entered row asked s from to lo (omega arith) apart in_range
+        (request_indices t q g only opens asks r same)
 
     -- the second asking is for later sums
     lower : {k : ℕ} → StageAsks t (second k) q → Tells f (holds r.station) t.pages before Sums r.station 1 (first_sums t.stations t.bound)
         → Tells f (holds r.station) t.pages after Sums r.station 1 (first_sums t.stations t.bound)
-    lower a told =
-        let h = first_sums t.stations t.bound in
-        let kind = same.0 ∙ a.2.0 in
-        tells_as f (holds r.station) t.pages after r.asked Sums r.station 1 h 1 h kind refl refl
-        (lower_tell f t.pages r values before after count entered (holds r.station) 1 h (omega arith) (omega (arith, same.1, a.2.1))
-        (tells_as f (holds r.station) t.pages before Sums r.asked r.station 1 h 1 h (sym kind) refl refl told))
+    lower a =
+        lower_tell f t.pages r values before after count entered (holds r.station) Sums (same.0 ∙ a.2.0) 1 (first_sums t.stations t.bound) (omega arith)
+        (omega (arith, same.1, a.2.1))
 
     firsts_kept : (g : Stage) → StageAsks t g q → FirstsTold f holds t g before → FirstsTold f holds t g after
     firsts_kept first a h = tt
@@ -132,7 +127,7 @@ module _ (f : Ops) (l : Laws f) (holds : ℕ → List ℕ) (b : Book) (farm : Fa
           same.0 same.1 same.2
           (entered_tells f l (holds q.station) (all_codes f l (holds q.station) codes) q b.terms.pages h.values tally after h.reply h.entered
           (λ i w. index_inside q.asked b.terms.stations b.terms.pages q.station i (length tally) (omega (arith, within)) within.1 told.room
-          (subst (λ a. Index a b.terms.pages i) (sym same.0) (question_indices b.terms b.question g only o shape.question i (omega arith)))))
+          (request_indices b.terms b.question g only o shape.question q same i w)))
 
   pub returns_told : (q : Request) (r : Result Returned Refusal) (b' : Book) → Returns b q r b' → After b tally → After b' tally
   returns_told q (Ok r) b' (a, h) told =

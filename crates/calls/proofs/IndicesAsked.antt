@@ -1,7 +1,8 @@
--- What the question of an asking is for may be asked for.
+-- What the question of an asking is for may be asked for, and so what a request of that asking is for.
 use Rattle.std.proofs.Common.{◌≡◌, ℕ, Option, sym, subst, inl, inr, arith}
 use Rattle.link.specs.declared.asked.Asked.{Asked}
 use Rattle.link.specs.declared.asked.Asked.TheVariants.{Sums, Signatures}
+use Rattle.link.specs.declared.request.Request.{Request}
 use Rattle.calls.specs.declared.terms.Terms.{Terms}
 use Rattle.calls.specs.declared.question.Question.{Question}
 use Rattle.calls.specs.Runs.{Stage, first, second, closed, AsksOnly}
@@ -21,3 +22,7 @@ question_indices t q first only o (inr (not, about)) =
 question_indices t q (second k) only o (not, station, about) =
     indices_of q.asked Sums t.pages q.first q.last about.0 (λ i w. omega (arith, about.1, about.2, t.bound_in.1))
 question_indices t q (closed v) only o h = absurd o
+
+pub request_indices : (t : Terms) (q : Question) (g : Stage) (only : Option ℕ) → AsksOnly g only → StageAsks t g q → (r : Request)
+    → (r.asked ≡ q.asked) × (r.first ≡ q.first) × (r.last ≡ q.last) → Indices r.asked t.pages r.first r.last
+request_indices t q g only o asks r same i w = subst (λ a. Index a t.pages i) (sym same.0) (question_indices t q g only o asks i (omega (arith, same)))

@@ -71,7 +71,9 @@ module _ (f : Ops) (N : ℕ) (q : Request) (values before after : List ℕ) (cou
       tells_on row asked s from to (λ i k w v. other_rows asked q.asked N s q.station i k a b apart (p i w) (r k v))
 
   -- under lower indices of its own row
-  pub lower_tell : (row : List ℕ) (from to : ℕ) → 1 ≤ from → to < q.first → Tells f row N before q.asked q.station from to
-      → Tells f row N after q.asked q.station from to
-  lower_tell row from to lo up =
-      tells_on row q.asked q.station from to (λ i k w v. other_index q.asked N q.station i k (omega arith) (omega arith) (omega arith))
+  pub lower_tell : (row : List ℕ) (asked : Asked) → q.asked ≡ asked → (from to : ℕ) → 1 ≤ from → to < q.first
+      → Tells f row N before asked q.station from to → Tells f row N after asked q.station from to
+  lower_tell row asked kind from to lo up =
+      tells_on row asked q.station from to
+      (λ i k w v. subst (λ a. place_of a N q.station i ≢ place_of q.asked N q.station k) kind
+      (other_index q.asked N q.station i k (omega arith) (omega arith) (omega arith)))

@@ -1,5 +1,5 @@
 -- At every moment of every run a check has taken what its stage says, and so never more than the most.
-use Rattle.std.proofs.Common.{◌≡◌, ℕ, ◌+◌, ◌-◌, ◌*◌, ◌≤◌, List, length, set, Option, Ok, Err, sym, refl, ap, ap₂, ◌∙◌, subst, inl, inr, arith}
+use Rattle.std.proofs.Common.{◌≡◌, ℕ, ◌+◌, ◌-◌, ◌*◌, ◌≤◌, List, length, set, Option, Ok, Err, sym, refl, ap, ap₂, ◌∙◌, subst, arith}
 use Rattle.std.proofs.Math.Nat.{mul-add}
 use native.Mathlib.Decide.{ℕ_discrete}
 use Rattle.field.specs.Field.{Ops, Laws, Spread}
@@ -22,7 +22,7 @@ use Rattle.calls.proofs.ShapesKept.{shape_kept, all_done}
 use Rattle.calls.proofs.StandingsSet.{place_inside, standing_other, standing_same, standing_start, not_free, free_if, out_if}
 use Rattle.calls.proofs.RepliesIn.{reply_in, reply_stays, replies_in, replies_moved, no_replies_in, all_replies_in}
 use Rattle.calls.proofs.ValuesPerReply.{per_reply, values_per_reply}
-use Rattle.calls.proofs.TakenByStage.{most_of, all_first, TakenBy, first_due, taken_few}
+use Rattle.calls.proofs.TakenByStage.{most_of, all_first, TakenBy, sums_due, taken_few}
 
 -- ── one station moves, and the terms and the question stay
 module _ (b b' : Book) (s : ℕ) (x : Standing) (keeps : Keeps b b') (is : b'.standings ≡ set b.standings s x) (within : Within 2 b.terms.stations s) where
@@ -85,10 +85,7 @@ asked_again : (f : Ops) → Laws f → Spread f → (b b' : Book) (k : ℕ) (t t
 asked_again f laws spread b b' k t t' x shape taken =
     let again = x.again in
     let asked : (¬ PlainTerms b.terms) × Within 2 b.terms.stations k = asks_one f laws spread b.terms shape.pages.1 t k x.ends in
-    let due : per_reply b.question ≡ first_sums b.terms.stations b.terms.bound = elim (first_due b.terms b.question shape.question) [
-      | inl p ↦ absurd (asked.0 p.0)
-      | inr p ↦ p.1
-    ] in
+    let due : per_reply b.question ≡ first_sums b.terms.stations b.terms.bound = sums_due b.terms b.question shape.question asked.0 in
     let all : replies_in b.terms.stations b.standings ≡ b.terms.stations - 1 =
     all_replies_in b.terms.stations b.standings (all_done b (length t) x.accepted) in
     let free : standing b' k ≡ Free = standing_same b.standings k Free again.standings (place_inside b k asked.1) in
