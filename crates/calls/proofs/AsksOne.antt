@@ -1,4 +1,4 @@
--- Weighing asks a station again in checks alone that are not plain, and it is one of 2 .. M.
+-- Weighing asks a station again only where a check is not plain, and it is one of 2 .. M.
 use Rattle.std.proofs.Common.{ℕ, ◌≤◌, List, inl, inr, arith}
 use Rattle.field.specs.Field.{Ops, Laws, Spread, page_limit}
 use Rattle.refusal.specs.Rules.{Within}

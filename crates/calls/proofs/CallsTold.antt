@@ -123,8 +123,7 @@ module _ (f : Ops) (l : Laws f) (holds : ℕ → List ℕ) (b : Book) (farm : Fa
 
       here : Tells f (holds q.station) b.terms.pages after b.question.asked q.station b.question.first b.question.last
       here =
-          tells_as f (holds q.station) b.terms.pages after q.asked b.question.asked q.station q.first q.last b.question.first b.question.last
-          same.0 same.1 same.2
+          tells_as f (holds q.station) b.terms.pages after q.station same.0 same.1 same.2
           (entered_tells f l (holds q.station) (all_codes f l (holds q.station) codes) q b.terms.pages h.values tally after h.reply h.entered
           (λ i w. index_inside q.asked b.terms.stations b.terms.pages q.station i (length tally) (omega (arith, within)) within.1 told.room
           (request_indices b.terms b.question g only o shape.question q same i w)))

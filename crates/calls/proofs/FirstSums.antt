@@ -1,5 +1,5 @@
 -- How many the first sums are: from the bound to twice as many; and no fewer than the pages in a plain check alone.
-use Rattle.std.proofs.Common.{◌≡◌, ℕ, ◌+◌, ◌*◌, ◌/◌, ◌≤◌, ◌≢◌, cond, sym, ap, subst, inl, inr, arith}
+use Rattle.std.proofs.Common.{◌≡◌, ℕ, ◌+◌, ◌*◌, ◌/◌, ◌<◌, ◌≤◌, ◌≢◌, cond, sym, ap, subst, inl, inr, arith}
 use native.Mathlib.Decide.{ℕ_discrete, dec_le}
 use borrow.Author.Tests.{ne_eqb}
 use Rattle.refusal.specs.Rules.{Within}
@@ -21,15 +21,12 @@ module _ (M N bound : ℕ) where
   plain_short (inr p) = subst (λ (M : ℕ). N ≤ first_sums M bound) (sym p.0) (omega arith)
 
   pub not_plain_long : 3 ≤ M → ¬ Plain M N bound → first_sums M bound ≤ N
-  not_plain_long three off = elim (ℕ_discrete M 3) [
-    | yes e ↦ elim (dec_le (first_sums 3 bound) N) [
-      | yes le ↦ subst (λ (M : ℕ). first_sums M bound ≤ N) (sym e) le
-      | no d ↦ absurd (off (inr (e, omega arith)))
-    ]
-    | no d ↦ elim (dec_le bound N) [
-      | yes le ↦ omega (arith, first_sums_more M bound d)
-      | no c ↦ absurd (off (inl (omega arith, omega arith)))
-    ]
+  not_plain_long three off = elim (dec_le (first_sums M bound) N) [
+    | yes le ↦ le
+    | no d ↦ absurd (off (elim (ℕ_discrete M 3) [
+      | yes e ↦ inr (e, subst (λ (M : ℕ). N < first_sums M bound) e (omega arith))
+      | no n ↦ inl (omega arith, omega (arith, first_sums_more M bound n))
+    ]))
   ]
 
   -- the first sums are some of all

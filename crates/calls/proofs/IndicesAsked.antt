@@ -13,7 +13,6 @@ use Rattle.calls.proofs.Shapes.{StageAsks}
 indices_of : (asked asked' : Asked) (N from to : ℕ) → asked ≡ asked' → Indices asked' N from to → Indices asked N from to
 indices_of asked asked' N from to e all i w = subst (λ a. Index a N i) (sym e) (all i w)
 
--- what is asked for may be asked for
 pub question_indices : (t : Terms) (q : Question) (g : Stage) (only : Option ℕ) → AsksOnly g only → StageAsks t g q → Indices q.asked t.pages q.first q.last
 question_indices t q first only o (inl (plain, about)) = indices_of q.asked Signatures t.pages q.first q.last about.0 (λ i w. omega (arith, about.1, about.2))
 question_indices t q first only o (inr (not, about)) =

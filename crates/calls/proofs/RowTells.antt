@@ -31,10 +31,9 @@ all_codes f l row codes k = elim (dec_lt (k - 1) (length row)) [
 ]
 
 -- the same indices of the same kind
-pub tells_as : (f : Ops) (row : List ℕ) (N : ℕ) (tally : List ℕ) (asked asked' : Asked) (s from to from' to' : ℕ)
+pub tells_as : (f : Ops) (row : List ℕ) (N : ℕ) (tally : List ℕ) (s : ℕ) {asked asked' : Asked} {from to from' to' : ℕ}
     → asked ≡ asked' → from ≡ from' → to ≡ to' → Tells f row N tally asked s from to → Tells f row N tally asked' s from' to'
-tells_as f row N tally asked asked' s from to from' to' kind lo up tells i w =
-    subst (λ a. get_or tally (place_of a N s i) 0 ≡ answer f row a i) kind (tells i (omega arith))
+tells_as f row N tally s kind lo up tells i w = subst (λ a. get_or tally (place_of a N s i) 0 ≡ answer f row a i) kind (tells i (omega arith))
 
 module _ (f : Ops) (l : Laws f) (row : List ℕ) (codes : (k : ℕ) → entry row k < f.size) (q : Request) where
   values_are : (values : List ℕ) → Reply f q (reply_words q (answers f row q)) values → values ≡ map (word 6) (answers f row q)

@@ -83,16 +83,14 @@ module _ (f : Ops) (holds : ℕ → List ℕ) (t : Terms) where
         → ¬ PlainTerms t → (k : ℕ) → FirstsTold f holds t (second k) tally
     firsts_told (inl (plain, about)) told done not k s w = absurd (not plain)
     firsts_told (inr (_, about)) told done not k s w =
-        tells_as f (holds s) t.pages tally q.asked Sums s q.first q.last 1 (first_sums t.stations t.bound) about.0 about.1 about.2
-        (told.replies s w tt (ap reply_in (done s w)))
+        tells_as f (holds s) t.pages tally s about.0 about.1 about.2 (told.replies s w tt (ap reply_in (done s w)))
 
     rows_told : StageAsks t first q → Told f holds t q xs first tally → ((s : ℕ) → Within 2 t.stations s → standing_of xs s ≡ Done)
         → PlainTerms t → Same t.stations t.pages (signature_in tally t.pages) (copies holds)
     rows_told (inl (_, about)) told done plain s n c p = elim (ℕ_discrete s 1) [
       | yes e ↦ subst (λ s. signature_in tally t.pages s n ≡ copies holds s n) (sym e) (told.own n p)
       | no d ↦
-          tells_as f (holds s) t.pages tally q.asked Signatures s q.first q.last 1 t.pages about.0 about.1 about.2
-          (told.replies s (omega arith) tt (ap reply_in (done s (omega arith)))) n p
+          tells_as f (holds s) t.pages tally s about.0 about.1 about.2 (told.replies s (omega arith) tt (ap reply_in (done s (omega arith)))) n p
     ]
     rows_told (inr (not, about)) told done plain s n c p = absurd (not plain)
 
@@ -121,8 +119,7 @@ module _ (f : Ops) (holds : ℕ → List ℕ) (t : Terms) where
         | yes le ↦ told_sum farm tally k 1 (first_sums t.stations t.bound) j (omega arith) (told.firsts k a.1) (omega arith)
         | no late ↦
             told_sum farm tally k (first_sums t.stations t.bound + 1) (all_sums t.pages t.bound) j (omega arith)
-            (tells_as f (holds k) t.pages tally q.asked Sums k q.first q.last (first_sums t.stations t.bound + 1) (all_sums t.pages t.bound) a.2.0 a.2.1 a.2.2
-            (told.replies k a.1 refl (ap reply_in done))) (omega arith)
+            (tells_as f (holds k) t.pages tally k a.2.0 a.2.1 a.2.2 (told.replies k a.1 refl (ap reply_in done))) (omega arith)
       ]
 
       -- nobody else is asked again
