@@ -29,7 +29,8 @@ use Rattle.calls.proofs.ShapesKept.{shape_kept, all_done}
 use Rattle.scheme.proofs.AtMostOne.{one_outcome}
 use Rattle.calls.proofs.TrueEnds.{alike_asks, first_weighs}
 use Rattle.calls.proofs.StepsTold.{told_judged}
-use Rattle.desk.proofs.Asked.{by_terms, sums_left}
+use Rattle.calls.proofs.AsksOne.{sums_left}
+use Rattle.desk.proofs.Asked.{by_terms}
 use Rattle.desk.proofs.CardsHeld.{card_size, cards_held}
 use Rattle.desk.proofs.Exchanged.{three_calls, terms_kept, question_kept, size_kept, station_is, handed_more, taken_more, run_longer, steady_longer}
 
