@@ -9,9 +9,9 @@ use Rattle.calls.specs.Entering.{Placed, RowsOpened}
 
 -- the first K words are 0, and the others what they were
 record Cleared (K : ℕ) (before cleared : List ℕ) : Type 0 where
-  pub size : length cleared ≡ length before
-  pub each : (i : ℕ) → i < K → get_or cleared i 0 ≡ 0
-  pub rest : (i : ℕ) → K ≤ i → get_or cleared i 0 ≡ get_or before i 0
+  size : length cleared ≡ length before
+  each : (i : ℕ) → i < K → get_or cleared i 0 ≡ 0
+  rest : (i : ℕ) → K ≤ i → get_or cleared i 0 ≡ get_or before i 0
 
 front_cleared : (K : ℕ) (before front : List ℕ) → K ≤ length before → front ≡ replicate (length (take K before)) 0 → Cleared K before (front ++ drop K before)
 front_cleared K before front fits is =

@@ -26,7 +26,7 @@ use Rattle.calls.proofs.TrueEnds.{closes_judged, firsts_told, weigh_true, settle
 
 module _ (f : Ops) (l : Laws f) (spread : Spread f) (holds : ℕ → List ℕ) where
   -- a book at a stage, over its tally
-  abbrev pub At : Terms → Book → Stage → (tally : List ℕ) → Type 0
+  abbrev At : Terms → Book → Stage → (tally : List ℕ) → Type 0
   At t b g tally = Moment f holds t b.question b.standings g tally
 
   module _ (b : Book) (farm : FarmHolds f b.terms.stations b.terms.pages holds) where

@@ -33,7 +33,7 @@ pub record Told (f : Ops) (holds : ℕ → List ℕ) (t : Terms) (q : Question) 
 
 module _ (f : Ops) (holds : ℕ → List ℕ) (t : Terms) (q : Question) (xs : List Standing) where
   -- of a closed check nothing is needed
-  abbrev pub ToldAt : Stage → (tally : List ℕ) → Type 0
+  abbrev ToldAt : Stage → (tally : List ℕ) → Type 0
   ToldAt first tally = Told f holds t q xs first tally
   ToldAt (second k) tally = Told f holds t q xs (second k) tally
   ToldAt (closed v) tally = Unit {0}

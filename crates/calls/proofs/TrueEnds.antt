@@ -40,7 +40,7 @@ alike_asks o same_station = refl
 
 module _ (f : Ops) (holds : ℕ → List ℕ) (t : Terms) where
   -- what an outcome says of the farm
-  abbrev pub Truly : Outcome → Type 0
+  abbrev Truly : Outcome → Type 0
   Truly over = Comes f t.stations t.pages t.bound (sums f t.pages holds) (sums f t.pages holds) (copies holds 1) over
   Truly (split n) = Comes f t.stations t.pages t.bound (sums f t.pages holds) (sums f t.pages holds) (copies holds 1) (split n)
   Truly (filled R) = Fills f t.stations t.pages t.bound (sums f t.pages holds) (sums f t.pages holds) (copies holds 1) (copies holds) R
