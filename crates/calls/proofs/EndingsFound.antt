@@ -19,8 +19,8 @@ use Rattle.calls.specs.declared.phases.Verdict.{Verdict}
 use Rattle.calls.specs.declared.phases.Verdict.TheVariants.{Report, Split, Over}
 use Rattle.calls.specs.Questions.{PlainTerms}
 use Rattle.calls.specs.Closing.{WeighEnds, SettleEnds, Finds}
-use Rattle.calls.proofs.AsksOne.{asked_within, asks_one}
 use Rattle.calls.specs.Endings.{ClosesOn, EndsIn, WeighedAs}
+use Rattle.calls.proofs.AsksOne.{asked_within, asks_one}
 
 -- ── the same rows close with the same verdict
 module _ (M N : ℕ) (Q R : Table) (same : Same M N Q R) where
