@@ -7,7 +7,7 @@ use Rattle.calls.specs.declared.book.Book.{Book}
 use Rattle.calls.specs.Slips.{one_handed, more_taken, one_back}
 use Rattle.calls.specs.Promise.{handed_by, answered_by, blank_by, taken_by}
 use Rattle.calls.specs.Runs.{Stage, Call, Step, slips, takes, returns, weigh_closes, weigh_asks, weigh_refused, settle_closes, settle_refused, lists}
-use Rattle.calls.proofs.TakenPerSlip.{values_after_header}
+use Rattle.calls.proofs.ValuesPerReply.{values_after_header}
 
 pub record Adds (before : Counts) (c : Call) (after : Counts) : Type 0 where
   pub handed : after.handed ≡ handed_by c + before.handed

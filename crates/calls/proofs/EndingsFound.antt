@@ -6,9 +6,8 @@ use Rattle.scheme.specs.Farm.{Table, Same}
 use Rattle.scheme.specs.Askings.{filled, asks}
 use Rattle.scheme.specs.Askings as rules
 use Rattle.scheme.specs.Closing.{Splits, Reports}
-use Rattle.scheme.proofs.AtLeastOne.{some_outcome}
 use Rattle.scheme.proofs.Tables.{decided_same}
-use Rattle.tally.specs.Rows.{signature_in, sum_in, Filled}
+use Rattle.tally.specs.Rows.{signature_in, Filled}
 use Rattle.tally.specs.Judging.{Ends}
 use Rattle.tally.specs.declared.outcome.Outcome.{Outcome}
 use Rattle.tally.specs.declared.outcome.Outcome.TheVariants as outcome
@@ -21,6 +20,7 @@ use Rattle.calls.specs.declared.phases.Verdict.TheVariants.{Report, Split, Over}
 use Rattle.calls.specs.Questions.{PlainTerms}
 use Rattle.calls.specs.Closing.{WeighEnds, SettleEnds, Finds}
 use Rattle.calls.specs.Endings.{ClosesOn, EndsIn, WeighedAs}
+use Rattle.calls.proofs.AsksOne.{asked_within, asks_one}
 
 -- ── the same rows close with the same verdict
 module _ (M N : ℕ) (Q R : Table) (same : Same M N Q R) where
@@ -62,16 +62,6 @@ ends_more Said Says M N before after more (outcome.Split n) ends = (more (rules.
 ends_more Said Says M N before after more outcome.Filled ends = (ends.0, more (filled ends.0) ends.1, ends.2)
 ends_more Said Says M N before after more (outcome.Asks k) ends = (more (asks k) ends.0, ends.1)
 
--- the station that weighing asks again is one of 2 .. M
-asked_within : (f : Ops) → Laws f → Spread f → (t : Terms) → t.pages ≤ page_limit f → (before after : List ℕ) (k : ℕ)
-    → Weighs f t.stations t.pages t.bound before after (asks k) → Within 2 t.stations k
-asked_within f laws spread t narrow before after k weighs =
-    let total =
-    some_outcome f laws spread t.stations t.pages t.bound t.stations_in.0 (omega (arith, narrow)) (sum_in before t.pages) (sum_in before t.pages) (signature_in before t.pages 1)
-    in
-    let asked = total.1 k weighs in
-    (asked.0, asked.1)
-
 module _ (f : Ops) (t : Terms) (before : List ℕ) where
   pub plain_found : PlainTerms t → (v : Verdict) → ClosesOn t.stations t.pages before v → Finds (WeighEnds f t before) t.stations t.pages before before v
   plain_found plain v closes =
@@ -82,7 +72,7 @@ module _ (f : Ops) (t : Terms) (before : List ℕ) where
     pub weighing_asks : Laws f → Spread f → t.pages ≤ page_limit f → (o : Outcome) → Weighed f t.stations t.pages t.bound before after o
         → (k : ℕ) → o ≡ outcome.Asks k → Within 2 t.stations k
     weighing_asks laws spread narrow o weighed k is =
-        asked_within f laws spread t narrow before after k (subst (Weighed f t.stations t.pages t.bound before after) is weighed).0
+        asked_within f laws spread t narrow before k (subst (Weighed f t.stations t.pages t.bound before after) is weighed).0
 
     pub weighed_found : Laws f → Spread f → t.pages ≤ page_limit f → ¬ PlainTerms t → (o : Outcome) (e : Ending)
         → Weighed f t.stations t.pages t.bound before after o → EndsIn t.stations t.pages after o e → WeighedAs f t before after e
@@ -93,13 +83,9 @@ module _ (f : Ops) (t : Terms) (before : List ℕ) where
             ending_found (WeighEnds f t before) t.stations t.pages before after o e
             (ends_more (Weighs f t.stations t.pages t.bound before before) (WeighEnds f t before) t.stations t.pages before after (λ o says. inr (not_plain, says)) o weighed) is
 
-        within : (k : ℕ) → WeighEnds f t before (asks k) → Within 2 t.stations k
-        within k (inl at_hand) = absurd (cc at_hand.1)
-        within k (inr weighs) = asked_within f laws spread t narrow before before k weighs.1
-
         with_station : (e : Ending) → Found (WeighEnds f t before) t.stations t.pages before after e → WeighedAs f t before after e
         with_station (Closes v) found = found
-        with_station (Asks k) found = (found.0, found.1, within k found.0)
+        with_station (Asks k) found = (found.0, found.1, (asks_one f laws spread t narrow before k found.0).1)
 
     pub settled_found : (o : Outcome) (v : Verdict) → Settled f t.stations t.pages t.bound before after o → EndsIn t.stations t.pages after o (Closes v)
         → Finds (SettleEnds f t before) t.stations t.pages before after v

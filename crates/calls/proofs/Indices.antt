@@ -1,5 +1,5 @@
 -- Where what may be asked for stands in a tally: inside of it, each index at a place of its own, each row apart from the others.
-use Rattle.std.proofs.Common.{◌≡◌, ℕ, suc, ◌+◌, ◌-◌, ◌*◌, ◌<◌, ◌≤◌, ◌≢◌, mul-le-mul_right, suc-mul, arith}
+use Rattle.std.proofs.Common.{◌≡◌, ℕ, suc, ◌+◌, ◌-◌, ◌*◌, ◌<◌, ◌≤◌, ◌≢◌, ap, arith}
 use native.Mathlib.Decide.{dec_le}
 use Rattle.algebra.specs.Vectors.{Page}
 use Rattle.refusal.specs.Rules.{Within}
@@ -37,11 +37,9 @@ other_index Sums N s i j a b apart e = omega arith
 other_index Signatures N s i j a b apart e = omega arith
 
 -- a row ends where the tally does or before
-row_inside : (M N s size : ℕ) → 1 ≤ s → s ≤ M → tally_size M N ≤ size → row_start N s + (N + 128) ≤ size
+pub row_inside : (M N s size : ℕ) → 1 ≤ s → s ≤ M → tally_size M N ≤ size → row_start N s + (N + 128) ≤ size
 row_inside M N s size lo up fits =
-    let one : suc (s - 1) * (N + 128) ≡ (s - 1) * (N + 128) + (N + 128) = suc-mul (s - 1) (N + 128) in
-    let le : suc (s - 1) * (N + 128) ≤ M * (N + 128) = mul-le-mul_right (N + 128) (let k : suc (s - 1) ≤ M = omega arith in k) in
-    omega (arith, one, le)
+    let e : suc M - 1 ≡ M = omega arith in omega (arith, row_below N s (suc M) lo (omega arith), ap (λ k. k * (N + 128)) e)
 
 pub index_inside : (asked : Asked) (M N s i size : ℕ) → 1 ≤ s → s ≤ M → tally_size M N ≤ size → Index asked N i → place_of asked N s i < size
 index_inside asked M N s i size lo up fits p = omega (arith, (in_row asked N s i p).1, row_inside M N s size lo up fits)

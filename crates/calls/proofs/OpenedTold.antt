@@ -9,10 +9,10 @@ use Rattle.calls.specs.declared.book.Book.{Book}
 use Rattle.calls.specs.Entering.{RowsOpened}
 use Rattle.calls.specs.Opening.{Opens}
 use Rattle.calls.specs.Runs.{first}
-use Rattle.calls.proofs.ReplyInRow.{Tells}
+use Rattle.calls.proofs.RowTells.{Tells}
 use Rattle.calls.proofs.Told.{Told}
-use Rattle.calls.proofs.ReplyIn.{free_lacks}
-use Rattle.calls.proofs.StandingsSet.{standing_start, not_free}
+use Rattle.calls.proofs.RepliesIn.{reply_in}
+use Rattle.calls.proofs.StandingsSet.{standing_start}
 
 module _ (f : Ops) (row : List ℕ) (M N J : ℕ) (before after : List ℕ) (opened : RowsOpened f row M N J before after) where
   own_told : Tells f row N after Signatures 1 1 N
@@ -29,8 +29,6 @@ opened_told f holds own number M N bound before after b o same = record {
   own_sums = subst₂ (λ N bound. Tells f (holds 1) N after Sums 1 1 (all_sums N bound)) (sym o.terms.2) (sym o.terms.3)
       (subst (λ row. Tells f row N after Sums 1 1 (all_sums N bound)) same
       (own_sums_told f own M N (all_sums N bound) before after o.rows o.accepted.1.1.1.1.0));
-  full = b.full;
-  outs = λ s h. absurd (not_free _ h (standing_start b.standings o.starts.standings s));
-  replies = λ s w a h. absurd (free_lacks _ (standing_start b.standings o.starts.standings s) h);
+  replies = λ s w a h. absurd (omega (arith, ap reply_in (standing_start b.standings o.starts.standings s)));
   firsts = tt;
 }

@@ -1,17 +1,18 @@
 -- The rows of a check that is opened: cleared, then the signatures of the own copy put into row 1, then its sums.
-use Rattle.std.proofs.Common.{◌≡◌, ℕ, ◌+◌, ◌-◌, ◌<◌, ◌≤◌, List, ◌++◌, length, get_or, take, drop, replicate, ap, ◌∙◌, length-append, length-take-le, length-drop, mul-le-mul_right, one-mul, arith}
+use Rattle.std.proofs.Common.{◌≡◌, ℕ, ◌+◌, ◌-◌, ◌<◌, ◌≤◌, List, ◌++◌, length, get_or, take, drop, replicate, ap, ◌∙◌, length-append, length-take-le, length-drop, arith}
 use Rattle.std.proofs.lemmas.List.{length-replicate, get_or-drop, get_or-replicate, get_or_append_left}
 use Rattle.std.proofs.Math.Seq.{get_or-append_right}
 use Rattle.field.specs.Field.{Ops}
 use Rattle.field.specs.Sums.{entry, power_sum}
 use Rattle.tally.specs.Rows.{signature_place, sum_place, tally_size}
 use Rattle.calls.specs.Entering.{Placed, RowsOpened}
+use Rattle.calls.proofs.Indices.{row_inside}
 
 -- the first K words are 0, and the others what they were
 record Cleared (K : ℕ) (before cleared : List ℕ) : Type 0 where
-  pub size : length cleared ≡ length before
-  pub each : (i : ℕ) → i < K → get_or cleared i 0 ≡ 0
-  pub rest : (i : ℕ) → K ≤ i → get_or cleared i 0 ≡ get_or before i 0
+  size : length cleared ≡ length before
+  each : (i : ℕ) → i < K → get_or cleared i 0 ≡ 0
+  rest : (i : ℕ) → K ≤ i → get_or cleared i 0 ≡ get_or before i 0
 
 front_cleared : (K : ℕ) (before front : List ℕ) → K ≤ length before → front ≡ replicate (length (take K before)) 0 → Cleared K before (front ++ drop K before)
 front_cleared K before front fits is =
@@ -36,7 +37,7 @@ module _ (f : Ops) (row : List ℕ) (M N J K : ℕ) (some : 1 ≤ M) (told : J �
 
   -- row 1 is inside
   first_row : N + 128 ≤ tally_size M N
-  first_row = omega (arith, mul-le-mul_right (N + 128) some, one-mul (N + 128))
+  first_row = omega (arith, row_inside M N 1 (tally_size M N) (omega arith) some (omega arith))
 
   pub rows_opened : RowsOpened f row M N J before after
   rows_opened = record {

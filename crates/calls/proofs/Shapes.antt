@@ -1,8 +1,8 @@
--- The shape of a check at each stage of a run: what its question asks for, and whose replies are in.
+-- The shape of a check at each stage of a run: what its question asks for, and where its stations stand.
 use Rattle.std.proofs.Common.{◌≡◌, ℕ, ◌≢◌}
 use Rattle.field.specs.Field.{Ops, page_limit}
 use Rattle.refusal.specs.Rules.{Within}
-use Rattle.calls.specs.declared.standing.Standing.TheVariants.{Done}
+use Rattle.calls.specs.declared.standing.Standing.TheVariants.{Free, Done}
 use Rattle.calls.specs.declared.terms.Terms.{Terms}
 use Rattle.calls.specs.declared.question.Question.{Question}
 use Rattle.calls.specs.declared.book.Book.{Book}
@@ -16,13 +16,15 @@ StageAsks t first q = FirstAsks t q
 StageAsks t (second k) q = (¬ PlainTerms t) × Within 2 t.stations k × SecondAsks t q
 StageAsks t (closed v) q = Unit {0}
 
--- in the second asking all other replies are in
-abbrev pub OthersIn : Book → Stage → Type 0
-OthersIn b first = Unit {0}
-OthersIn b (second k) = (s : ℕ) → Within 2 b.terms.stations s → s ≢ k → standing b s ≡ Done
-OthersIn b (closed v) = Unit {0}
+-- station s is asked at this stage
+abbrev pub AskedAt : Stage → ℕ → Type 0
+AskedAt first s = Unit {0}
+AskedAt (second k) s = k ≡ s
+AskedAt (closed v) s = ⊥
 
+-- every number but the stations 2 .. M stands free, and of these all that are not asked have told
 pub record Shape (f : Ops) (b : Book) (g : Stage) : Type 0 where
   pub pages : Within 1 (page_limit f) b.terms.pages
   pub question : StageAsks b.terms g b.question
-  pub others : OthersIn b g
+  pub stations : (s : ℕ) → standing b s ≢ Free → Within 2 b.terms.stations s
+  pub others : (s : ℕ) → Within 2 b.terms.stations s → ¬ AskedAt g s → standing b s ≡ Done

@@ -1,83 +1,86 @@
 -- A check has the shape of its stage at every moment of every run.
-use Rattle.std.proofs.Common.{◌≡◌, ℕ, ◌≤◌, List, length, set, Ok, Err, sym, ap, ◌∙◌, subst, inl, inr, arith}
+use Rattle.std.proofs.Common.{◌≡◌, ℕ, List, length, set, ◌≢◌, Ok, Err, sym, ap, ◌∙◌, subst, arith}
+use native.Mathlib.Decide.{ℕ_discrete}
 use Rattle.field.specs.Field.{Ops, Laws, Spread, page_limit}
 use Rattle.refusal.specs.Rules.{Within, Accepted}
-use Rattle.scheme.specs.Askings.{asks}
-use Rattle.scheme.proofs.AtLeastOne.{some_outcome}
-use Rattle.tally.specs.Rows.{sum_in, signature_in}
 use Rattle.calls.specs.declared.standing.Standing.{Standing}
 use Rattle.calls.specs.declared.standing.Standing.TheVariants.{Free, Out, Heard, Done}
 use Rattle.calls.specs.declared.terms.Terms.{Terms}
 use Rattle.calls.specs.declared.question.Question.{Question}
 use Rattle.calls.specs.declared.book.Book.{Book}
 use Rattle.calls.specs.Questions.{PlainTerms, SecondAsks}
-use Rattle.calls.specs.Standings.{standing_of}
+use Rattle.calls.specs.Standings.{SlipOut}
+use Rattle.calls.specs.declared.phases.Verdict.{Verdict}
 use Rattle.calls.specs.Slips.{standing, standing_after, Keeps}
-use Rattle.calls.specs.Closing.{closing, WeighEnds}
-use Rattle.calls.specs.Runs.{Stage, first, second, closed, Call, Step, Run, slips, takes, returns, weigh_closes, weigh_asks, weigh_refused, settle_closes, settle_refused, lists, opened, called}
-use Rattle.calls.proofs.Shapes.{StageAsks, OthersIn, Shape}
-use Rattle.calls.proofs.StandingsSet.{standing_other, not_done, done_if}
+use Rattle.calls.specs.Closing.{closing}
+use Rattle.calls.specs.Runs.{Stage, closed, Call, Step, Run, slips, takes, returns, weigh_closes, weigh_asks, weigh_refused, settle_closes, settle_refused, lists, opened, called}
+use Rattle.calls.proofs.AsksOne.{asks_one}
+use Rattle.calls.proofs.Shapes.{StageAsks, Shape}
+use Rattle.calls.proofs.StandingsSet.{standing_other, standing_start, not_free, not_done, done_if}
 
 -- where an asking ends every reply is in
 pub all_done : (b : Book) (room : ℕ) → Accepted (closing b room) → (s : ℕ) → Within 2 b.terms.stations s → standing b s ≡ Done
 all_done b room accepted s within = done_if (standing b s) (λ lacking. accepted.1.1.0 s (omega arith) (within, lacking))
 
--- only checks that are not plain ask a station again, and it is one of 2 .. M
-pub asks_one : (f : Ops) → Laws f → Spread f → (t : Terms) (tally : List ℕ) (k : ℕ) → t.pages ≤ f.places → WeighEnds f t tally (asks k)
-    → (¬ PlainTerms t) × Within 2 t.stations k
-asks_one f laws spread t tally k le (inl h) = absurd (let e = h.1 in cc)
-asks_one f laws spread t tally k le (inr w) =
-    let r = (some_outcome f laws spread t.stations t.pages t.bound t.stations_in.0 le (sum_in tally t.pages) (sum_in tally t.pages) (signature_in tally t.pages 1)).1 k w.1 in
-    (w.0, (r.0, r.1))
+-- one station of 2 .. M moves
+stations_then : (b b' : Book) (s : ℕ) (x : Standing) → b'.terms ≡ b.terms → b'.standings ≡ set b.standings s x → Within 2 b.terms.stations s
+    → ((t : ℕ) → standing b t ≢ Free → Within 2 b.terms.stations t) → (t : ℕ) → standing b' t ≢ Free → Within 2 b'.terms.stations t
+stations_then b b' s x terms is within h t off = subst (λ (u : Terms). Within 2 u.stations t) (sym terms) (elim (ℕ_discrete t s) [
+  | yes e ↦ subst (λ t. Within 2 b.terms.stations t) (sym e) within
+  | no d ↦ h t (λ free. off (standing_other b.standings s x is t d ∙ free))
+])
 
 module _ (f : Ops) where
   stays : {b b' : Book} {g : Stage} → b' ≡ b → Shape f b g → Shape f b' g
   stays {g = g} e h = subst (λ (b : Book). Shape f b g) (sym e) h
 
-  -- one station moves whose reply was not in
-  moved : {b b' : Book} {g : Stage} (s : ℕ) (x : Standing) → Keeps b b' → b'.standings ≡ set b.standings s x → (standing b s ≡ Done → ⊥)
-      → Shape f b g → Shape f b' g
-  moved {b} {b'} {g} s x keeps is off h = record {
+  -- its reply was not in
+  moved : {b b' : Book} {g : Stage} (s : ℕ) (x : Standing) → Keeps b b' → b'.standings ≡ set b.standings s x → Within 2 b.terms.stations s
+      → standing b s ≢ Done → Shape f b g → Shape f b' g
+  moved {b} {b'} {g} s x keeps is within off h = record {
     pages = subst (λ (t : Terms). Within 1 (page_limit f) t.pages) (sym keeps.terms) h.pages;
     question =
         subst (λ (q : Question). StageAsks b'.terms g q) (sym keeps.question) (subst (λ (t : Terms). StageAsks t g b.question) (sym keeps.terms) h.question);
-    others = others g h.others;
+    stations = stations_then b b' s x keeps.terms is within h.stations;
+    others = λ t inside d.
+        let done = h.others t (subst (λ (u : Terms). Within 2 u.stations t) keeps.terms inside) d in
+        standing_other b.standings s x is t (λ e. off (ap (standing b) (sym e) ∙ done)) ∙ done;
   }
-    where
-      others : (g : Stage) → OthersIn b g → OthersIn b' g
-      others first o = tt
-      others (closed v) o = tt
-      others (second k) o = λ t within d.
-          let done : standing b t ≡ Done = o t (subst (λ (t' : Terms). Within 2 t'.stations t) keeps.terms within) d in
-          ap (λ xs. standing_of xs t) is ∙ standing_other b.standings s t x (λ e. off (ap (standing b) (sym e) ∙ done)) ∙ done
+
+  -- the slip of a station is out
+  slip_moved : {b b' : Book} {g : Stage} (s : ℕ) (x : Standing) → Keeps b b' → b'.standings ≡ set b.standings s x → SlipOut (standing b s)
+      → Shape f b g → Shape f b' g
+  slip_moved {b} s x keeps is out h = moved s x keeps is (h.stations s (not_free (standing b s) out)) (not_done (standing b s) out) h
+
+  -- a check closes where every reply is in
+  closes : {b b' : Book} {g : Stage} (v : Verdict) (room : ℕ) → b' ≡ b → Accepted (closing b room) → Shape f b g → Shape f b' (closed v)
+  closes {b} v room is accepted h =
+      let here : Shape f b (closed v) = record { pages = h.pages; question = tt; stations = h.stations; others = λ s within _. all_done b room accepted s within } in
+      stays is here
 
   module _ (laws : Laws f) (spread : Spread f) where
     step_kept : {b b' : Book} {g g' : Stage} {c : Call} → Step f b g c b' g' → Shape f b g → Shape f b' g'
-    step_kept (slips {b = b} only {s = s} {r = Ok slip} asked r) h =
-        moved s Out r.1.keeps r.1.standings r.0.1.1.1.1.0 h
+    step_kept (slips only {s = s} {r = Ok slip} asked r) h = moved s Out r.1.keeps r.1.standings r.0.1.0 r.0.1.1.1.1.0 h
     step_kept (slips only {r = Err e} asked r) h = stays r.1 h
-    step_kept (takes {b = b} only {p = p} {r = Ok u} asked r) h =
-        moved p.request.station Heard r.1.keeps r.1.standings (not_done (standing b p.request.station) r.0.1.0.1) h
+    step_kept (takes only {p = p} {r = Ok u} asked r) h = slip_moved p.request.station Heard r.1.keeps r.1.standings r.0.1.0.1 h
     step_kept (takes only {r = Err e} asked r) h = stays r.1 h
-    step_kept (returns {b = b} {p = p} {r = Ok a} r) h =
-        moved p.request.station (standing_after a) r.1.keeps r.1.standings (not_done (standing b p.request.station) r.0.0.1) h
+    step_kept (returns {p = p} {r = Ok a} r) h = slip_moved p.request.station (standing_after a) r.1.keeps r.1.standings r.0.0.1 h
     step_kept (returns {r = Err e} r) h = stays r.1 h
-    step_kept (weigh_closes x) h =
-        record { pages = subst (λ (b : Book). Within 1 (page_limit f) b.terms.pages) (sym x.book) h.pages; question = tt; others = tt }
+    step_kept (weigh_closes {v = v} {t = t} x) h = closes v (length t) x.book x.accepted h
     step_kept (weigh_asks {b = b} {b' = b'} {k = k} {t = t} x) h =
-        let asked : (¬ PlainTerms b.terms) × Within 2 b.terms.stations k = asks_one f laws spread b.terms t k (omega (arith, h.pages)) x.ends in
+        let asked : (¬ PlainTerms b.terms) × Within 2 b.terms.stations k = asks_one f laws spread b.terms h.pages.1 t k x.ends in
         record {
           pages = subst (λ (t : Terms). Within 1 (page_limit f) t.pages) (sym x.again.terms) h.pages;
           question =
               subst (λ (t : Terms). (¬ PlainTerms t) × Within 2 t.stations k × SecondAsks t b'.question) (sym x.again.terms)
               (asked.0, asked.1, x.again.question);
+          stations = stations_then b b' k Free x.again.terms x.again.standings asked.1 h.stations;
           others = λ s within d.
-              ap (λ xs. standing_of xs s) x.again.standings ∙ standing_other b.standings k s Free d
+              standing_other b.standings k Free x.again.standings s (λ e. d (sym e))
               ∙ all_done b (length t) x.accepted s (subst (λ (t : Terms). Within 2 t.stations s) x.again.terms within);
         }
     step_kept (weigh_refused e x) h = stays x.1 h
-    step_kept (settle_closes x) h =
-        record { pages = subst (λ (b : Book). Within 1 (page_limit f) b.terms.pages) (sym x.book) h.pages; question = tt; others = tt }
+    step_kept (settle_closes {v = v} {t = t} x) h = closes v (length t) x.book x.accepted h
     step_kept (settle_refused e x) h = stays x.1 h
     step_kept (lists x) h = h
 
@@ -85,6 +88,7 @@ pub shape_kept : (f : Ops) → Laws f → Spread f → (own tally : List ℕ) (k
 shape_kept f laws spread own tally _ b _ (opened o) = record {
   pages = subst (λ N. Within 1 (page_limit f) N) (sym o.terms.2) o.accepted.1.1.0;
   question = o.starts.question;
-  others = tt;
+  stations = λ s off. absurd (off (standing_start b.standings o.starts.standings s));
+  others = λ s within unasked. absurd (unasked tt);
 }
 shape_kept f laws spread own tally _ b' _ (called {ks = ks} {b = b} {g = g} r x) = step_kept f laws spread x (shape_kept f laws spread own tally ks b g r)

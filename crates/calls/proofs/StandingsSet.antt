@@ -1,15 +1,21 @@
 -- Where stations stand once one of them moved, and what a standing is when it is not some other.
-use Rattle.std.proofs.Common.{◌≡◌, ℕ, zero, suc, ◌<◌, ◌≢◌, List, length, set, replicate, refl, ap, ◌∙◌, inl, inr}
+use Rattle.std.proofs.Common.{◌≡◌, ℕ, zero, suc, ◌<◌, ◌≢◌, List, length, set, replicate, refl, ap, ◌∙◌, inl, inr, arith}
 use Rattle.std.proofs.lemmas.List.{get_or-set_same, get_or-set_other}
+use Rattle.refusal.specs.Rules.{Within}
+use Rattle.calls.specs.declared.book.Book.{Book}
 use Rattle.calls.specs.declared.standing.Standing.{Standing}
 use Rattle.calls.specs.declared.standing.Standing.TheVariants.{Free, Out, Heard, Done}
 use Rattle.calls.specs.Standings.{standing_of, SlipOut}
 
-pub standing_other : (xs : List Standing) (s t : ℕ) (x : Standing) → t ≢ s → standing_of (set xs s x) t ≡ standing_of xs t
-standing_other xs s t x d = get_or-set_other xs s t x Free d
+pub standing_other : (xs : List Standing) {ys : List Standing} (s : ℕ) (x : Standing) → ys ≡ set xs s x → (t : ℕ) → t ≢ s → standing_of ys t ≡ standing_of xs t
+standing_other xs s x is t d = ap (λ ys. standing_of ys t) is ∙ get_or-set_other xs s t x Free d
 
-pub standing_same : (xs : List Standing) (s : ℕ) (x : Standing) → s < length xs → standing_of (set xs s x) s ≡ x
-standing_same xs s x h = get_or-set_same xs s x Free h
+pub standing_same : (xs : List Standing) {ys : List Standing} (s : ℕ) (x : Standing) → ys ≡ set xs s x → s < length xs → standing_of ys s ≡ x
+standing_same xs s x is inside = ap (λ ys. standing_of ys s) is ∙ get_or-set_same xs s x Free inside
+
+-- every station's place is one of the standings
+pub place_inside : (b : Book) (s : ℕ) → Within 2 b.terms.stations s → s < length b.standings
+place_inside b s within = omega (arith, b.full, b.terms.stations_in)
 
 standing_all_free : (n s : ℕ) → standing_of (replicate n Free) s ≡ Free
 standing_all_free zero s = refl

@@ -1,26 +1,24 @@
 -- Over a steady farm every call leaves the tally telling what its stage needs, and weighing and settling did what the rules say.
-use Rattle.std.proofs.Common.{◌≡◌, ℕ, List, ◌∷◌, length, set, Some, None, Ok, Err, Option, sym, refl, ap, ◌∙◌, subst, subst₂, arith}
-use native.Mathlib.Decide.{ℕ_discrete}
-use Rattle.std.proofs.lemmas.List.{length-set}
+use Rattle.std.proofs.Common.{◌≡◌, ℕ, List, ◌∷◌, length, Some, None, Ok, Err, Option, sym, refl, ap, ◌∙◌, subst, subst₂, arith}
 use Rattle.field.specs.Field.{Ops, Laws, Spread}
 use Rattle.refusal.specs.Rules.{Within}
 use Rattle.scheme.specs.Askings.{asks}
 use Rattle.scheme.specs.Weighing.{Weighs}
-use Rattle.calls.specs.declared.standing.Standing.TheVariants.{Free}
+use Rattle.calls.specs.declared.standing.Standing.TheVariants.{Free, Done}
 use Rattle.calls.specs.declared.terms.Terms.{Terms}
 use Rattle.calls.specs.declared.book.Book.{Book}
 use Rattle.calls.specs.declared.phases.Verdict.{Verdict}
 use Rattle.calls.specs.Questions.{PlainTerms}
-use Rattle.calls.specs.Standings.{standing_of, SlipOut}
-use Rattle.calls.specs.Slips.{Takes}
+use Rattle.calls.specs.Slips.{Takes, standing}
 use Rattle.calls.specs.Closing.{WeighAsks, WeighEnds, SettleEnds}
 use Rattle.calls.specs.Runs.{Stage, first, second, closed, Call, Step, Run, AsksOnly, slips, takes, returns, weigh_closes, weigh_asks, weigh_refused, settle_closes, settle_refused, lists, opened, called}
 use Rattle.calls.specs.Steady.{FarmHolds, copies, sums, Steady}
 use Rattle.calls.specs.Promise.{Judged}
 use Rattle.calls.proofs.Shapes.{Shape}
-use Rattle.calls.proofs.StandingsSet.{standing_other, standing_same}
-use Rattle.calls.proofs.ShapesKept.{all_done, asks_one, shape_kept}
-use Rattle.calls.proofs.ReplyIn.{free_lacks}
+use Rattle.calls.proofs.StandingsSet.{standing_same, place_inside}
+use Rattle.calls.proofs.ShapesKept.{all_done, shape_kept}
+use Rattle.calls.proofs.AsksOne.{asks_one}
+use Rattle.calls.proofs.RepliesIn.{reply_in}
 use Rattle.calls.proofs.Told.{Told, Moment}
 use Rattle.calls.proofs.OpenedTold.{opened_told}
 use Rattle.calls.proofs.CallsTold.{slips_told, takes_told, returns_told}
@@ -28,39 +26,32 @@ use Rattle.calls.proofs.TrueEnds.{closes_judged, firsts_told, weigh_true, settle
 
 module _ (f : Ops) (l : Laws f) (spread : Spread f) (holds : ℕ → List ℕ) where
   -- a book at a stage, over its tally
-  abbrev pub At : Terms → Book → Stage → (tally : List ℕ) → Type 0
+  abbrev At : Terms → Book → Stage → (tally : List ℕ) → Type 0
   At t b g tally = Moment f holds t b.question b.standings g tally
 
   module _ (b : Book) (farm : FarmHolds f b.terms.stations b.terms.pages holds) where
     -- the second asking begins
     again_told : (k : ℕ) (b' : Book) (tally tally' : List ℕ) → Shape f b first → WeighAsks f b tally k b' tally' → Told f holds b.terms b.question b.standings first tally
         → At b.terms b' (second k) tally
-    again_told k b' tally tally' shape x told =
-        (subst (λ xs. Told f holds b.terms b'.question xs (second k) tally) (sym x.again.standings) anew, asked)
+    again_told k b' tally tally' shape x told = (anew, asked)
       where
+        done : (s : ℕ) → Within 2 b.terms.stations s → standing b s ≡ Done
+        done = all_done b (length tally) x.accepted
+
         asked : (¬ PlainTerms b.terms)
             × Weighs f b.terms.stations b.terms.pages b.terms.bound (sums f b.terms.pages holds) (copies holds 1) (asks k)
-        asked = weigh_true f holds b.terms farm b.question b.standings tally shape.question told (all_done b (length tally) x.accepted) (asks k) x.ends
+        asked = weigh_true f holds b.terms farm b.question b.standings tally shape.question told done (asks k) x.ends
 
-        within : Within 2 b.terms.stations k
-        within = (asks_one f l spread b.terms tally k (omega (arith, shape.pages)) x.ends).1
+        free : standing b' k ≡ Free
+        free = standing_same b.standings k Free x.again.standings (place_inside b k (asks_one f l spread b.terms shape.pages.1 tally k x.ends).1)
 
-        free : standing_of (set b.standings k Free) k ≡ Free
-        free = standing_same b.standings k Free (omega (arith, within, b.full, b.terms.stations_in))
-
-        anew : Told f holds b.terms b'.question (set b.standings k Free) (second k) tally
+        anew : Told f holds b.terms b'.question b'.standings (second k) tally
         anew = record {
           room = told.room;
           own = told.own;
           own_sums = told.own_sums;
-          full = length-set b.standings k Free ∙ told.full;
-          outs = λ s h. elim (ℕ_discrete s k) [
-            | yes e ↦ subst (Within 2 b.terms.stations) (sym e) within
-            | no d ↦ told.outs s (subst SlipOut (standing_other b.standings k s Free d) h)
-          ];
-          replies = λ s w a h. absurd (free_lacks _ (ap (standing_of (set b.standings k Free)) (sym a) ∙ free) h);
-          firsts =
-              firsts_told f holds b.terms farm b.question b.standings tally shape.question told (all_done b (length tally) x.accepted) asked.0 k;
+          replies = λ s w a h. absurd (omega (arith, ap (λ s. reply_in (standing b' s)) (sym a) ∙ ap reply_in free));
+          firsts = firsts_told f holds b.terms farm b.question b.standings tally shape.question told done asked.0 k;
         }
 
     -- what is told at each stage that asks, if each such stage keeps it
@@ -79,16 +70,16 @@ module _ (f : Ops) (l : Laws f) (spread : Spread f) (holds : ℕ → List ℕ) w
         → ((last : List ℕ) → Steady f holds own tally ks last → At b.terms b g last)
         → (last : List ℕ) → Steady f holds own tally (c ∷ ks) last → At b.terms b' g' last
     step_told own tally ks (slips {b' = b'} {g = g} only {s = s} {q = q} {q' = q'} {r = r} asked x) shape before last steady =
-        each_stage g b' last last (λ _ _ told. slips_told f l holds b farm g last only s q q' r b' x told) (λ v e. refl) (before last steady)
+        each_stage g b' last last (λ _ _ told. slips_told f l holds b farm g shape last only s q q' r b' x told) (λ v e. refl) (before last steady)
     step_told own tally ks (takes {b' = b'} {g = g} only {p = p} {w = w} {t = t} {t' = t'} {r = Ok u} asked x) shape before last (words, is, steady) =
         let y = subst (λ w. Takes f b p.request w t (Ok u) b' t') words x in
         subst (λ m. At b.terms b' g m) (sym is)
-        (each_stage g b' t t' (λ o a told. takes_told f l holds b farm g t o a shape.question p.request t' u b' y told)
+        (each_stage g b' t t' (λ o a told. takes_told f l holds b farm g shape t o a p.request t' u b' y told)
         (λ v e. absurd (subst (λ g. AsksOnly g only) e asked)) (before t steady))
     step_told own tally ks (takes {b' = b'} {g = g} only {t = t} {t' = t'} {r = Err e} asked x) shape before last (is, steady) =
         subst (λ m. At b.terms b' g m) (sym is) (same_book g b' t t' x.1 x.2 (before t steady))
     step_told own tally ks (returns {b' = b'} {g = g} {p = p} {r = r} x) shape before last steady =
-        each_stage g b' last last (λ _ _ told. returns_told f l holds b farm g last p.request r b' x told) (λ v e. refl) (before last steady)
+        each_stage g b' last last (λ _ _ told. returns_told f l holds b farm g shape last p.request r b' x told) (λ v e. refl) (before last steady)
     step_told own tally ks (weigh_closes {b' = b'} {v = v} {t = t} {t' = t'} x) shape before last (is, steady) =
         let told = (before t steady).0 in
         let ends = weigh_true f holds b.terms farm b.question b.standings t shape.question told (all_done b (length t) x.accepted) in

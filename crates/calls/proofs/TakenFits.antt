@@ -19,5 +19,5 @@ fewer_replies : (xs : List Standing) → replies_out xs ≤ still_out xs
 fewer_replies [] = omega arith
 fewer_replies (x ∷ xs) = omega (arith, sum_by-cons reply_out x xs, sum_by-cons slip_out x xs, reply_in_slip x, fewer_replies xs)
 
-pub taken_fits : (b : Book) → b.counts.handed < 2 ^ 32 → (q : Request) → OutHere b q → (n : ℕ) → n ≡ values_due q → b.counts.taken + n < 2 ^ 64
-taken_fits b few q out n is = omega (arith, out.0, is, b.question, b.balance, b.outs, b.modest, fewer_replies b.standings)
+pub taken_fits : (b : Book) (q : Request) → OutHere b q → (n : ℕ) → n ≡ values_due q → b.counts.taken + n < 2 ^ 64
+taken_fits b q out n is = omega (arith, out.0, is, b.question, b.countable, b.balance, b.outs, b.modest, fewer_replies b.standings)

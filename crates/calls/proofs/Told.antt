@@ -8,17 +8,12 @@ use Rattle.link.specs.declared.asked.Asked.TheVariants.{Sums, Signatures}
 use Rattle.calls.specs.declared.standing.Standing.{Standing}
 use Rattle.calls.specs.declared.terms.Terms.{Terms}
 use Rattle.calls.specs.declared.question.Question.{Question}
-use Rattle.calls.specs.Standings.{standing_of, SlipOut}
+use Rattle.calls.specs.Standings.{standing_of}
 use Rattle.calls.specs.Runs.{Stage, first, second, closed}
 use Rattle.calls.specs.Promise.{Judged}
-use Rattle.calls.proofs.ReplyIn.{ReplyIn}
-use Rattle.calls.proofs.ReplyInRow.{Tells}
-
--- station s is asked at this stage
-abbrev pub AskedAt : Stage → ℕ → Type 0
-AskedAt first s = Unit {0}
-AskedAt (second k) s = k ≡ s
-AskedAt (closed v) s = ⊥
+use Rattle.calls.proofs.Shapes.{AskedAt}
+use Rattle.calls.proofs.RepliesIn.{reply_in}
+use Rattle.calls.proofs.RowTells.{Tells}
 
 module _ (f : Ops) (holds : ℕ → List ℕ) (t : Terms) where
   -- in the second asking the first sums of all stations are told
@@ -32,14 +27,13 @@ pub record Told (f : Ops) (holds : ℕ → List ℕ) (t : Terms) (q : Question) 
   pub room : tally_size t.stations t.pages ≤ length tally
   pub own : Tells f (holds 1) t.pages tally Signatures 1 1 t.pages
   pub own_sums : Tells f (holds 1) t.pages tally Sums 1 1 (all_sums t.pages t.bound)
-  pub full : length xs ≡ 9
-  pub outs : (s : ℕ) → SlipOut (standing_of xs s) → Within 2 t.stations s
-  pub replies : (s : ℕ) → Within 2 t.stations s → AskedAt g s → ReplyIn (standing_of xs s) → Tells f (holds s) t.pages tally q.asked s q.first q.last
+  pub replies : (s : ℕ) → Within 2 t.stations s → AskedAt g s → reply_in (standing_of xs s) ≡ 1
+      → Tells f (holds s) t.pages tally q.asked s q.first q.last
   pub firsts : FirstsTold f holds t g tally
 
 module _ (f : Ops) (holds : ℕ → List ℕ) (t : Terms) (q : Question) (xs : List Standing) where
   -- of a closed check nothing is needed
-  abbrev pub ToldAt : Stage → (tally : List ℕ) → Type 0
+  abbrev ToldAt : Stage → (tally : List ℕ) → Type 0
   ToldAt first tally = Told f holds t q xs first tally
   ToldAt (second k) tally = Told f holds t q xs (second k) tally
   ToldAt (closed v) tally = Unit {0}

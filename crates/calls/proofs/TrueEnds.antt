@@ -27,17 +27,20 @@ use Rattle.calls.specs.Closing.{WeighEnds, SettleEnds, Finds}
 use Rattle.calls.specs.Runs.{first, second, closed}
 use Rattle.calls.specs.Steady.{FarmHolds, copies, sums}
 use Rattle.calls.specs.Promise.{Judged}
-use Rattle.calls.proofs.ReplyInRow.{Tells, tells_as}
+use Rattle.calls.proofs.AsksOne.{sums_left}
+use Rattle.calls.proofs.RowTells.{Tells, tells_as}
 use Rattle.calls.proofs.Told.{Told, FirstsTold}
-use Rattle.calls.proofs.SumsAsked.{firsts_among}
+use Rattle.calls.proofs.FirstSums.{firsts_among}
+use Rattle.calls.proofs.RepliesIn.{reply_in}
 use Rattle.calls.proofs.Shapes.{StageAsks}
 
-alike_asks : {M N i k : ℕ} → Alike M N (asks i) (asks k) → i ≡ k
-alike_asks same_station = refl
+-- of one station alone
+pub alike_asks : {M N k : ℕ} (o : Outcome) → Alike M N o (asks k) → o ≡ asks k
+alike_asks o same_station = refl
 
 module _ (f : Ops) (holds : ℕ → List ℕ) (t : Terms) where
   -- what an outcome says of the farm
-  abbrev pub Truly : Outcome → Type 0
+  abbrev Truly : Outcome → Type 0
   Truly over = Comes f t.stations t.pages t.bound (sums f t.pages holds) (sums f t.pages holds) (copies holds 1) over
   Truly (split n) = Comes f t.stations t.pages t.bound (sums f t.pages holds) (sums f t.pages holds) (copies holds 1) (split n)
   Truly (filled R) = Fills f t.stations t.pages t.bound (sums f t.pages holds) (sums f t.pages holds) (copies holds 1) (copies holds) R
@@ -57,53 +60,48 @@ module _ (f : Ops) (holds : ℕ → List ℕ) (t : Terms) where
         → sum_in tally t.pages s j ≡ sums f t.pages holds s j
     told_sum s from to j a tells w = tells j w ∙ ap (λ n. power_sum f n (entry (holds s)) j) (farm.pages s a)
 
-    module _ (own : Tells f (holds 1) t.pages tally Signatures 1 1 t.pages) (own_sums : Tells f (holds 1) t.pages tally Sums 1 1 (all_sums t.pages t.bound)) where
-      own_row : (n : ℕ) → Page t.pages n → signature_in tally t.pages 1 n ≡ copies holds 1 n
-      own_row n p = own n p
+    module _ (own : Tells f (holds 1) t.pages tally Signatures 1 1 t.pages) (own_sums : Tells f (holds 1) t.pages tally Sums 1 1 (all_sums t.pages t.bound))
+        (not : ¬ PlainTerms t) (k : ℕ) (firsts : FirstsTold f holds t (second k) tally) where
+      first_sums_told : (s j : ℕ) → Station t.stations s → Page (first_sums t.stations t.bound) j → sum_in tally t.pages s j ≡ sums f t.pages holds s j
+      first_sums_told s j a p = elim (ℕ_discrete s 1) [
+        | yes e ↦
+            let le = firsts_among t.stations t.pages t.bound t.stations_in.0 t.bound_in.0 not in
+            subst (λ s. sum_in tally t.pages s j ≡ sums f t.pages holds s j) (sym e)
+            (told_sum 1 1 (all_sums t.pages t.bound) j (omega (arith, t.stations_in.0)) own_sums (omega arith))
+        | no d ↦ told_sum s 1 (first_sums t.stations t.bound) j a (firsts s (omega arith)) (omega arith)
+      ]
 
-      module _ (not : ¬ PlainTerms t) (k : ℕ) (firsts : FirstsTold f holds t (second k) tally) where
-        first_sums_told : (s j : ℕ) → Station t.stations s → Page (first_sums t.stations t.bound) j → sum_in tally t.pages s j ≡ sums f t.pages holds s j
-        first_sums_told s j a p = elim (ℕ_discrete s 1) [
-          | yes e ↦
-              let le = firsts_among t.stations t.pages t.bound t.stations_in.0 t.bound_in.0 not in
-              subst (λ s. sum_in tally t.pages s j ≡ sums f t.pages holds s j) (sym e)
-              (told_sum 1 1 (all_sums t.pages t.bound) j (omega (arith, t.stations_in.0)) own_sums (omega arith))
-          | no d ↦ told_sum s 1 (first_sums t.stations t.bound) j a (firsts s (omega arith)) (omega arith)
-        ]
-
-        true_weighs : (o : Outcome) → Weighs f t.stations t.pages t.bound (sum_in tally t.pages) (signature_in tally t.pages 1) o
-            → Weighs f t.stations t.pages t.bound (sums f t.pages holds) (copies holds 1) o
-        true_weighs =
-            weighs_depends f t.stations t.pages t.bound (sum_in tally t.pages) (sums f t.pages holds) (signature_in tally t.pages 1) (copies holds 1)
-            first_sums_told own_row
+      true_weighs : (o : Outcome) → Weighs f t.stations t.pages t.bound (sum_in tally t.pages) (signature_in tally t.pages 1) o
+          → Weighs f t.stations t.pages t.bound (sums f t.pages holds) (copies holds 1) o
+      true_weighs =
+          weighs_depends f t.stations t.pages t.bound (sum_in tally t.pages) (sums f t.pages holds) (signature_in tally t.pages 1) (copies holds 1)
+          first_sums_told own
 
   -- ── weighing
   module _ (farm : FarmHolds f t.stations t.pages holds) (q : Question) (xs : List Standing) (tally : List ℕ) where
-    -- all have told the first sums, or all signatures in a plain check
-    pub firsts_told : StageAsks t first q → Told f holds t q xs first tally → ((s : ℕ) → Within 2 t.stations s → standing_of xs s ≡ Done)
-        → ¬ PlainTerms t → (k : ℕ) → FirstsTold f holds t (second k) tally
-    firsts_told (inl (plain, about)) told done not k s w = absurd (not plain)
-    firsts_told (inr (_, about)) told done not k s w =
-        tells_as f (holds s) t.pages tally q.asked Sums s q.first q.last 1 (first_sums t.stations t.bound) about.0 about.1 about.2
-        (told.replies s w tt (inr (done s w)))
-
-    rows_told : StageAsks t first q → Told f holds t q xs first tally → ((s : ℕ) → Within 2 t.stations s → standing_of xs s ≡ Done)
-        → PlainTerms t → Same t.stations t.pages (signature_in tally t.pages) (copies holds)
-    rows_told (inl (_, about)) told done plain s n c p = elim (ℕ_discrete s 1) [
-      | yes e ↦ subst (λ s. signature_in tally t.pages s n ≡ copies holds s n) (sym e) (told.own n p)
-      | no d ↦
-          tells_as f (holds s) t.pages tally q.asked Signatures s q.first q.last 1 t.pages about.0 about.1 about.2
-          (told.replies s (omega arith) tt (inr (done s (omega arith)))) n p
-    ]
-    rows_told (inr (not, about)) told done plain s n c p = absurd (not plain)
-
     module _ (a : StageAsks t first q) (told : Told f holds t q xs first tally) (done : (s : ℕ) → Within 2 t.stations s → standing_of xs s ≡ Done) where
+      -- all have told the first sums, or all signatures in a plain check
+      pub firsts_told : ¬ PlainTerms t → (k : ℕ) → FirstsTold f holds t (second k) tally
+      firsts_told not k s w = elim a [
+        | inl x ↦ absurd (not x.0)
+        | inr x ↦ tells_as f (holds s) t.pages tally s x.1.0 x.1.1 x.1.2 (told.replies s w tt (ap reply_in (done s w)))
+      ]
+
+      rows_told : PlainTerms t → Same t.stations t.pages (signature_in tally t.pages) (copies holds)
+      rows_told plain s n c p = elim a [
+        | inl x ↦ elim (ℕ_discrete s 1) [
+          | yes e ↦ subst (λ s. signature_in tally t.pages s n ≡ copies holds s n) (sym e) (told.own n p)
+          | no d ↦ tells_as f (holds s) t.pages tally s x.1.0 x.1.1 x.1.2 (told.replies s (omega arith) tt (ap reply_in (done s (omega arith)))) n p
+        ]
+        | inr x ↦ absurd (x.0 plain)
+      ]
+
       pub first_weighs : ¬ PlainTerms t → (o : Outcome) → Weighs f t.stations t.pages t.bound (sum_in tally t.pages) (signature_in tally t.pages 1) o
           → Weighs f t.stations t.pages t.bound (sums f t.pages holds) (copies holds 1) o
-      first_weighs not = true_weighs farm tally told.own told.own_sums not 0 (firsts_told a told done not 0)
+      first_weighs not = true_weighs farm tally told.own told.own_sums not 0 (firsts_told not 0)
 
       pub weigh_true : (o : Outcome) → WeighEnds f t tally o → Truly o
-      weigh_true o (inl x) = subst Truly (sym x.1) (inl (x.2, λ s n c p. x.3 s n c p ∙ rows_told a told done x.2 s n c p))
+      weigh_true o (inl x) = subst Truly (sym x.1) (inl (x.2, λ s n c p. x.3 s n c p ∙ rows_told x.2 s n c p))
       weigh_true over (inr (not, w)) = (not, inl (first_weighs not over w))
       weigh_true (split n) (inr (not, w)) = (not, inl (first_weighs not (split n) w))
       weigh_true (filled R) (inr (not, w)) = inr (not, inl (first_weighs not (filled R) w))
@@ -122,26 +120,28 @@ module _ (f : Ops) (holds : ℕ → List ℕ) (t : Terms) where
         | yes le ↦ told_sum farm tally k 1 (first_sums t.stations t.bound) j (omega arith) (told.firsts k a.1) (omega arith)
         | no late ↦
             told_sum farm tally k (first_sums t.stations t.bound + 1) (all_sums t.pages t.bound) j (omega arith)
-            (tells_as f (holds k) t.pages tally q.asked Sums k q.first q.last (first_sums t.stations t.bound + 1) (all_sums t.pages t.bound) a.2.0 a.2.1 a.2.2
-            (told.replies k a.1 refl (inr done))) (omega arith)
+            (tells_as f (holds k) t.pages tally k a.2.0 a.2.1 a.2.2 (told.replies k a.1 refl (ap reply_in done))) (omega arith)
       ]
 
       -- nobody else is asked again
       asked_one : (i : ℕ) → Weighs f t.stations t.pages t.bound (sum_in tally t.pages) (signature_in tally t.pages 1) (asks i) → i ≡ k
       asked_one i w =
-          alike_asks ((one_outcome f l spread t.stations t.pages t.bound (omega (arith, pages.1)) (sums f t.pages holds) (sums f t.pages holds) (copies holds 1)
+          let same =
+          alike_asks (asks i) ((one_outcome f l spread t.stations t.pages t.bound (omega (arith, pages.1)) (sums f t.pages holds) (sums f t.pages holds) (copies holds 1)
           (asks i) (asks k)).0 (weighs (asks i) w) judged.1)
+          in
+          cc
 
-      more : Weighs f t.stations t.pages t.bound (sums f t.pages holds) (copies holds 1) (asks k) → t.stations ≡ 3
-          → first_sums 3 t.bound < all_sums t.pages t.bound
-      more (inl x) three = absurd (omega (arith, x.0))
-      more (inr x) three = x.1.0
+      more : t.stations ≡ 3 → first_sums 3 t.bound < all_sums t.pages t.bound
+      more three =
+          subst (λ M. first_sums M t.bound < all_sums t.pages t.bound) three
+          (sums_left f t.stations t.pages t.bound (sums f t.pages holds) (copies holds 1) k t.bound_in.0 judged.0 judged.1)
 
       settles : (o : Outcome) → Settles f t.stations t.pages t.bound (sum_in tally t.pages) (sum_in tally t.pages) (signature_in tally t.pages 1) o
           → Settles f t.stations t.pages t.bound (sums f t.pages holds) (sums f t.pages holds) (copies holds 1) o
       settles =
           settles_depends f t.stations t.pages t.bound (sum_in tally t.pages) (sums f t.pages holds) (signature_in tally t.pages 1) (copies holds 1)
-          (first_sums_told farm tally told.own told.own_sums a.0 k told.firsts) (own_row farm tally told.own told.own_sums) (more judged.1)
+          (first_sums_told farm tally told.own told.own_sums a.0 k told.firsts) told.own more
           (sum_in tally t.pages) (sums f t.pages holds)
           (λ j p. told_sum farm tally 1 1 (all_sums t.pages t.bound) j (omega (arith, t.stations_in.0)) told.own_sums (omega arith))
           (λ i j w p. subst (λ i. sum_in tally t.pages i j ≡ sums f t.pages holds i j) (sym (asked_one i w)) (all_told j p))

@@ -1,64 +1,19 @@
 -- Where weighing and settling did what the rules say, and strays are few or the check is plain, what was found is right.
-use Rattle.std.proofs.Common.{◌≡◌, ℕ, zero, suc, ◌+◌, ◌≤◌, ◌≢◌, ◌⊎◌, List, sym, ◌∙◌, refl, subst, inl, inr, arith}
-use native.Mathlib.Decide.{ℕ_discrete}
+use Rattle.std.proofs.Common.{ℕ, ◌≤◌, ◌⊎◌, List, sym, ◌∙◌, refl, inl, inr, arith}
 use Rattle.field.specs.Field.{Ops, Laws, Spread, page_limit}
-use Rattle.algebra.specs.Vectors.{Page}
 use Rattle.refusal.specs.Rules.{Within}
-use Rattle.scheme.specs.Farm.{Table, Same, Majority, Decided, Bad, strays, count, agree}
+use Rattle.scheme.specs.Farm.{Same, Bad, strays}
 use Rattle.scheme.specs.Theorem.{Told, Finds}
-use Rattle.scheme.proofs.Counts.{count_le, count_add, agree_most, agree_apart}
 use Rattle.scheme.proofs.Tables.{bad_same}
 use Rattle.scheme.proofs.Truth.{right}
 use Rattle.tally.specs.Rows.{signature_in}
-use Rattle.tally.specs.Listing.{Lists, Listed}
 use Rattle.calls.specs.declared.terms.Terms.{Terms}
 use Rattle.calls.specs.declared.phases.Verdict.TheVariants.{Report, Split, Over}
 use Rattle.calls.specs.Questions.{PlainTerms}
 use Rattle.calls.specs.Runs.{Stage, first, second, closed}
 use Rattle.calls.specs.Steady.{FarmHolds, copies, sums}
 use Rattle.calls.specs.Promise.{Judged, Differs, Right}
-
--- lists of the same pages
-pub lists_as : (N : ℕ) (Q P : ℕ → Type 0) → ((n : ℕ) → Page N n → Q n → P n) → ((n : ℕ) → Page N n → P n → Q n) → (xs : List ℕ) → Lists N Q xs → Lists N P xs
-lists_as N Q P to from xs l = record {
-  each = λ i h. let e = l.each i h in (e.0, to _ e.0 e.1);
-  rising = l.rising;
-  every = λ n p x. l.every n p (from n p x);
-}
-
-listed_as : (N : ℕ) (Q P : ℕ → Type 0) → ((n : ℕ) → Page N n → Q n → P n) → ((n : ℕ) → Page N n → P n → Q n) → (before after : List ℕ) (count : ℕ)
-    → Listed N Q before after count → Listed N P before after count
-listed_as N Q P to from before after count x =
-    record { listed = x.listed; lists = lists_as N Q P to from x.listed x.lists; size = x.size; room = x.room; written = x.written }
-
--- ── majorities
-count_ones : (k : ℕ) → count k (λ _. 1) ≡ k
-count_ones zero = refl
-count_ones (suc k) = let ih = count_ones k in omega arith
-
-agree_once : (a v w : ℕ) → v ≢ w → agree a v + agree a w ≤ 1
-agree_once a v w apart = elim (ℕ_discrete a v) [
-  | yes e ↦ omega (arith, agree_most a v, agree_apart a w (λ x. apart (sym e ∙ x)))
-  | no d ↦ omega (arith, agree_most a w, agree_apart a v d)
-]
-
-module _ (M : ℕ) (P : Table) (n : ℕ) where
-  -- no two signatures are held by more than half
-  one_majority : (v w : ℕ) → Majority M P n v → Majority M P n w → v ≡ w
-  one_majority v w a b = elim (ℕ_discrete v w) [
-    | yes e ↦ e
-    | no d ↦
-        let most = count_le M (λ s. agree (P s n) v + agree (P s n) w) (λ _. 1) (λ s _. agree_once (P s n) v w d) in
-        let both = count_add M (λ s. agree (P s n) v) (λ s. agree (P s n) w) in
-        absurd (omega (arith, a, b, most, both, count_ones M))
-  ]
-
-  -- on a page with a majority a copy is bad where it differs from it
-  pub bad_differs : (s : ℕ) → Decided M P n → Bad M P s n → Differs M P s n
-  bad_differs s d bad = (d.0, d.1, λ e. bad (subst (Majority M P n) (sym e) d.1))
-
-  pub differs_bad : (s : ℕ) → Differs M P s n → Bad M P s n
-  differs_bad s x most = x.2 (one_majority (P s n) x.0 most x.1)
+use Rattle.calls.proofs.BadPages.{bad_differs, differs_bad, listed_as}
 
 module _ (f : Ops) (l : Laws f) (spread : Spread f) (holds : ℕ → List ℕ) (t : Terms) (pages : Within 1 (page_limit f) t.pages)
     (farm : FarmHolds f t.stations t.pages holds) (few : PlainTerms t ⊎ (strays t.stations (copies holds) t.pages ≤ t.bound)) where

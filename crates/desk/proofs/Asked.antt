@@ -1,32 +1,12 @@
 -- What the first asking asks for, as numbers: never nothing, and no more than a station tells.
-use Rattle.std.proofs.Common.{◌≡◌, ℕ, suc, ◌+◌, ◌-◌, ◌*◌, ◌/◌, ◌≤◌, ◌<◌, Bool, true, false, cond, List, length, inl, inr, sym, ap, ap₂, ◌∙◌, subst, arith}
-use lib.Dec.{eqb}
-use native.Mathlib.Decide.{dec_le}
-use borrow.Author.Tests.{ne_eqb}
-use Rattle.field.specs.Field.{Ops}
-use Rattle.refusal.specs.Rules.{Within}
-use Rattle.link.specs.declared.asked.Asked.TheVariants.{Sums, Signatures}
-use Rattle.scheme.specs.Farm.{Table}
-use Rattle.scheme.specs.Askings.{first_sums, all_sums, Plain, asks}
-use Rattle.scheme.specs.Weighing.{Weighs}
+use Rattle.std.proofs.Common.{◌≡◌, ℕ, suc, ◌-◌, ◌≤◌, List, length, inl, inr, sym, subst, arith}
 use Rattle.station.specs.Serving.{index_limit}
 use Rattle.calls.specs.declared.terms.Terms.{Terms}
 use Rattle.calls.specs.declared.question.Question.{Question}
 use Rattle.calls.specs.Questions.{FirstAsks}
 use Rattle.calls.specs.Opening.{Stands}
 use Rattle.desk.specs.Going.{FirstDue}
-
-sums_between : (three : Bool) (bound : ℕ) → Within 1 64 bound → Within 1 96 (cond three ((3 * bound + 1) / 2) bound)
-sums_between true bound within = omega arith
-sums_between false bound within = omega arith
-
-pub first_sums_between : (M bound : ℕ) → Within 1 64 bound → Within 1 96 (first_sums M bound)
-first_sums_between M bound within = sums_between (eqb M 3) bound within
-
--- in a plain check there are few pages
-pub plain_few : (M N bound : ℕ) → Within 1 64 bound → Plain M N bound → N ≤ 96
-plain_few M N bound within (inl p) = omega arith
-plain_few M N bound within (inr p) = omega (arith, first_sums_between 3 bound within)
+use Rattle.calls.proofs.FirstSums.{first_sums_between, plain_short}
 
 -- what holds of the numbers that a check knows holds of those that it stands by
 pub by_terms : (P : ℕ → ℕ → ℕ → Type 0) (t : Terms) (number M N bound : ℕ) → Stands t number M N bound → P t.stations t.pages t.bound → P M N bound
@@ -44,22 +24,13 @@ module _ (t : Terms) (q : Question) where
   first_due M N bound stands question = by_terms (λ M N bound. (d : ℕ) → FirstDue M N bound d → suc q.last - q.first ≡ d) t 1 M N bound stands (due_is question)
 
   pub first_short : FirstAsks t q → q.last ≤ 128
-  first_short (inl (plain, (asked, from, to))) = omega (arith, plain_few t.stations t.pages t.bound t.bound_in plain, to)
-  first_short (inr (not, (asked, from, to))) = omega (arith, first_sums_between t.stations t.bound t.bound_in, to)
+  first_short (inl (plain, (asked, from, to))) = omega (arith, plain_short t.stations t.pages t.bound plain, first_sums_between t.stations t.bound t.bound_in.0, t.bound_in.1, to)
+  first_short (inr (not, (asked, from, to))) = omega (arith, first_sums_between t.stations t.bound t.bound_in.0, t.bound_in.1, to)
 
   pub first_rising : FirstAsks t q → q.first ≤ q.last
   first_rising (inl (plain, (asked, from, to))) = omega (arith, t.pages_in, from, to)
-  first_rising (inr (not, (asked, from, to))) = omega (arith, first_sums_between t.stations t.bound t.bound_in, from, to)
+  first_rising (inr (not, (asked, from, to))) = omega (arith, first_sums_between t.stations t.bound t.bound_in.0, t.bound_in.1, from, to)
 
   pub first_answered : FirstAsks t q → (row : List ℕ) → length row ≡ t.pages → q.last ≤ index_limit q.asked row
   first_answered (inl (plain, (asked, from, to))) row size = subst (λ k. q.last ≤ index_limit k row) (sym asked) (omega (arith, to, size))
   first_answered (inr (not, (asked, from, to))) row size = subst (λ k. q.last ≤ index_limit k row) (sym asked) (first_short (inr (not, (asked, from, to))))
-
--- where a station is asked again, sums are left to ask for
-pub sums_left : (f : Ops) (M N bound : ℕ) (T : Table) (own : ℕ → ℕ) (k : ℕ) → 1 ≤ bound → ¬ Plain M N bound → Weighs f M N bound T own (asks k)
-    → first_sums M bound < all_sums N bound
-sums_left f M N bound T own k some not (inl (four, w)) =
-    let h : first_sums M bound ≡ bound = ap (λ t. cond t ((3 * bound + 1) / 2) bound) (ne_eqb M 3 (omega arith)) in
-    let many : bound < N = elim (dec_le N bound) [ yes few ↦ absurd (not (inl (four, few))) | no m ↦ omega arith ] in
-    omega (arith, h)
-sums_left f M N bound T own k some not (inr (three, w)) = subst (λ M. first_sums M bound < all_sums N bound) (sym three) w.0

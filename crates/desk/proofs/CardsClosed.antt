@@ -30,11 +30,11 @@ use Rattle.desk.specs.Exchange.{Ready, Exchange}
 use Rattle.desk.specs.Going.{Calls, Going, FirstDue, AsksAgain, Taken, Checked}
 use Rattle.calls.proofs.Shapes.{Shape}
 use Rattle.calls.proofs.ShapesKept.{shape_kept, all_done}
-use Rattle.scheme.specs.Theorem.{Alike, same_station}
 use Rattle.scheme.proofs.AtMostOne.{one_outcome}
-use Rattle.calls.proofs.TrueEnds.{first_weighs}
+use Rattle.calls.proofs.TrueEnds.{alike_asks, first_weighs}
 use Rattle.calls.proofs.StepsTold.{told_judged}
-use Rattle.desk.proofs.Asked.{by_terms, sums_left}
+use Rattle.calls.proofs.AsksOne.{sums_left}
+use Rattle.desk.proofs.Asked.{by_terms}
 use Rattle.desk.proofs.CardsHeld.{card_size, cards_held}
 use Rattle.desk.proofs.Exchanged.{three_calls, terms_kept, size_kept, heard, others_stay, taken_more, run_longer, steady_longer}
 
@@ -59,9 +59,6 @@ closing_outcome Ends M N before after Over x = (over, x.0, λ k e. cc)
 closing_outcome Ends M N before after (Split n) (inl x) = (split n, x.0, λ k e. cc)
 closing_outcome Ends M N before after (Split n) (inr x) = (filled x.0, x.1, λ k e. cc)
 closing_outcome Ends M N before after Report x = (filled x.0, x.1, λ k e. cc)
-
-alike_asks : {M N k : ℕ} (o : Outcome) → Alike M N o (asks k) → o ≡ asks k
-alike_asks o same_station = refl
 
 -- closing keeps the tally's length
 finds_size : (Ends : Outcome → Type 0) (M N : ℕ) (before after : List ℕ) (v : Verdict) → Finds Ends M N before after v → length after ≡ length before

@@ -14,7 +14,7 @@ use Rattle.calls.specs.Opening.{Stands}
 use Rattle.calls.specs.Runs.{closed}
 use Rattle.calls.specs.Steady.{copies}
 use Rattle.calls.specs.Promise.{Judged, Right, Differs}
-use Rattle.calls.proofs.TrueReports.{lists_as, bad_differs, differs_bad}
+use Rattle.calls.proofs.BadPages.{lists_as, bad_differs, differs_bad}
 use Rattle.desk.proofs.Asked.{by_terms}
 use Rattle.desk.specs.Findings.{LinesOf, VerdictText, RulesFind, TrueFind, FarmText, sums_line}
 use Rattle.desk.specs.Copies.{cards}

@@ -1,4 +1,4 @@
-use Rattle.std.proofs.Common.{◌^◌, ◌<◌, refl, rules, arith}
+use Rattle.std.proofs.Common.{refl, arith}
 use Rattle.std.proofs.lemmas.Result.{err_from_is_err_and}
 use Rattle.calls.proofs.TakenFits.{taken_fits}
 use Rattle.calls.proofs.book.Book.take_in.Goals as goal
@@ -10,5 +10,4 @@ returns-in_err-values g c =
 
 pub overflow_add-self : goal.overflow_add-self
 overflow_add-self g c =
-    let few : c.args.self.now.counts.handed < 2 ^ 32 = search rules in
-    omega (arith, taken_fits c.args.self.now few c.args.request.now c.in_ok-values.ensures.0.1.0 _ c.in_ok-values.ensures.1.count)
+    omega (arith, taken_fits c.args.self.now c.args.request.now c.in_ok-values.ensures.0.1.0 _ c.in_ok-values.ensures.1.count)

@@ -1,8 +1,8 @@
 -- What a station answers stands in its row once its reply is entered, and what other places hold stays.
 use Rattle.std.proofs.Common.{◌≡◌, ℕ, suc, ◌+◌, ◌-◌, ◌<◌, ◌≤◌, ◌≢◌, List, map, length, get_or, sym, ap, ◌∙◌, subst, arith}
-use native.Mathlib.Decide.{dec_lt}
 use Rattle.std.proofs.lemmas.List.{append_cancel_left, get_or-map, get_or_past}
 use Rattle.std.proofs.lemmas.List.FromFn.{get_or-map-range_with_len}
+use native.Mathlib.Decide.{dec_lt}
 use Rattle.field.specs.Field.{Ops, Laws}
 use Rattle.field.specs.Sums.{entry}
 use Rattle.algebra.specs.Vectors.{Codes}
@@ -31,10 +31,9 @@ all_codes f l row codes k = elim (dec_lt (k - 1) (length row)) [
 ]
 
 -- the same indices of the same kind
-pub tells_as : (f : Ops) (row : List ℕ) (N : ℕ) (tally : List ℕ) (asked asked' : Asked) (s from to from' to' : ℕ)
+pub tells_as : (f : Ops) (row : List ℕ) (N : ℕ) (tally : List ℕ) (s : ℕ) {asked asked' : Asked} {from to from' to' : ℕ}
     → asked ≡ asked' → from ≡ from' → to ≡ to' → Tells f row N tally asked s from to → Tells f row N tally asked' s from' to'
-tells_as f row N tally asked asked' s from to from' to' kind lo up tells i w =
-    subst (λ a. get_or tally (place_of a N s i) 0 ≡ answer f row a i) kind (tells i (omega arith))
+tells_as f row N tally s kind lo up tells i w = subst (λ a. get_or tally (place_of a N s i) 0 ≡ answer f row a i) kind (tells i (omega arith))
 
 module _ (f : Ops) (l : Laws f) (row : List ℕ) (codes : (k : ℕ) → entry row k < f.size) (q : Request) where
   values_are : (values : List ℕ) → Reply f q (reply_words q (answers f row q)) values → values ≡ map (word 6) (answers f row q)
@@ -71,7 +70,9 @@ module _ (f : Ops) (N : ℕ) (q : Request) (values before after : List ℕ) (cou
       tells_on row asked s from to (λ i k w v. other_rows asked q.asked N s q.station i k a b apart (p i w) (r k v))
 
   -- under lower indices of its own row
-  pub lower_tell : (row : List ℕ) (from to : ℕ) → 1 ≤ from → to < q.first → Tells f row N before q.asked q.station from to
-      → Tells f row N after q.asked q.station from to
-  lower_tell row from to lo up =
-      tells_on row q.asked q.station from to (λ i k w v. other_index q.asked N q.station i k (omega arith) (omega arith) (omega arith))
+  pub lower_tell : (row : List ℕ) (asked : Asked) → q.asked ≡ asked → (from to : ℕ) → 1 ≤ from → to < q.first
+      → Tells f row N before asked q.station from to → Tells f row N after asked q.station from to
+  lower_tell row asked kind from to lo up =
+      tells_on row asked q.station from to
+      (λ i k w v. subst (λ a. place_of a N q.station i ≢ place_of q.asked N q.station k) kind
+      (other_index q.asked N q.station i k (omega arith) (omega arith) (omega arith)))
