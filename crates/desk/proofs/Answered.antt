@@ -1,19 +1,18 @@
 -- What a station serves to a request within its range: the reply with its answers, and never a refusal.
-use Rattle.std.proofs.Common.{◌≡◌, ℕ, suc, ◌+◌, ◌-◌, ◌≤◌, List, [], ◌∷◌, ◌++◌, length, map, take, drop, Ok, Err, inl, inr, sym, refl, ap, ap₂, ◌∙◌, subst, arith}
-use Rattle.std.proofs.lemmas.List.{length-append, length-map}
+use Rattle.std.proofs.Common.{◌≡◌, ℕ, ◌+◌, ◌≤◌, List, ◌++◌, length, map, take, drop, Ok, Err, inl, inr, sym, ap, ap₂, ◌∙◌, subst, arith}
+use Rattle.std.proofs.lemmas.List.{length-map}
 use Rattle.std.proofs.Math.Seq.{take-append_seam}
 use Rattle.std.proofs.lemmas.List.FromFn.{length-map-range_with_len}
 use Rattle.field.specs.Field.{Ops}
 use Rattle.refusal.specs.declared.Refusal.{Refusal}
 use Rattle.refusal.specs.Numbers.{place}
-use Rattle.refusal.specs.Rules.{Within, Accepted}
-use Rattle.link.specs.declared.asked.Asked.{Asked}
+use Rattle.refusal.specs.Rules.{Accepted}
 use Rattle.link.specs.declared.request.Request.{Request}
 use Rattle.link.specs.Requests.{request_words, values_due, Same}
 use Rattle.link.specs.Reading.{reading_request, reply_words}
 use Rattle.link.specs.Words.{word}
 use Rattle.link.proofs.ReadBack.{requests_read_back}
-use Rattle.station.specs.Serving.{answer, answers, index_limit, InRange, Served, ServedRequest}
+use Rattle.station.specs.Serving.{answer, answers, index_limit, InRange, Served}
 
 -- requests that ask the same are answered alike
 same_reply : (f : Ops) (row : List ℕ) (p q : Request) → Same p q → reply_words p (answers f row p) ≡ reply_words q (answers f row q)

@@ -1,33 +1,30 @@
 -- How a check of cards ends: by weighing, or by one more exchange and settling.
-use Rattle.std.proofs.Common.{◌≡◌, ℕ, suc, ◌+◌, ◌-◌, ◌*◌, ◌≤◌, ◌<◌, ◌≢◌, ◌⊎◌, List, ◌∷◌, length, Option, Some, None, inl, inr, sym, refl, ap, ap₂, ◌∙◌, subst, set, get_or-set_same, arith}
+use Rattle.std.proofs.Common.{◌≡◌, ℕ, suc, ◌+◌, ◌-◌, ◌*◌, ◌≤◌, ◌<◌, ◌≢◌, ◌⊎◌, List, ◌∷◌, length, Some, inl, inr, sym, refl, ap, ap₂, ◌∙◌, subst, arith}
 use Rattle.field.specs.Field.{Ops, Laws, Spread}
 use native.Mathlib.Decide.{ℕ_discrete}
 use Rattle.refusal.specs.declared.Refusal.{Refusal}
 use Rattle.refusal.specs.Numbers.{place}
 use Rattle.refusal.specs.Rules.{Within, Refused}
-use Rattle.link.specs.declared.asked.Asked.TheVariants.{Sums, Signatures}
-use Rattle.link.specs.Requests.{values_due}
 use Rattle.scheme.specs.Askings.{first_sums, all_sums, Plain, Outcome, over, split, filled, asks}
 use Rattle.scheme.specs.Farm.{strays}
 use Rattle.scheme.specs.Weighing.{Weighs}
-use Rattle.calls.specs.Standings.{standing_of}
 use Rattle.station.specs.Serving.{index_limit}
 use Rattle.tally.specs.Rows.{tally_size}
 use Rattle.calls.specs.declared.book.Book.{Book}
 use Rattle.calls.specs.declared.phases.Verdict.{Verdict}
 use Rattle.calls.specs.declared.phases.Verdict.TheVariants.{Report, Split, Over}
 use Rattle.calls.specs.declared.standing.Standing.TheVariants.{Free, Done}
-use Rattle.calls.specs.Questions.{FirstAsks, SecondAsks, PlainTerms}
+use Rattle.calls.specs.Questions.{PlainTerms}
 use Rattle.calls.specs.Opening.{Stands}
-use Rattle.calls.proofs.StandingsSet.{standing_other, not_done}
+use Rattle.calls.proofs.StandingsSet.{standing_other, standing_same, not_done}
 use Rattle.calls.specs.Closing.{closing, WeighCloses, WeighAsks, WeighEnds, SettleEnds, SettleCloses, Finds}
 use Rattle.calls.specs.Slips.{standing}
-use Rattle.calls.specs.Runs.{Stage, first, second, closed, Call, weigh, settle, Run, called, weigh_closes, weigh_asks, settle_closes}
-use Rattle.calls.specs.Steady.{copies, sums, Steady, FarmHolds}
+use Rattle.calls.specs.Runs.{Stage, first, second, closed, weigh, settle, called, weigh_closes, weigh_asks, settle_closes}
+use Rattle.calls.specs.Steady.{copies, sums, FarmHolds}
 use Rattle.calls.specs.Promise.{Judged, Right, EveryRun}
-use Rattle.desk.specs.Copies.{words_of, cards}
+use Rattle.desk.specs.Copies.{cards}
 use Rattle.desk.specs.Exchange.{Ready, Exchange}
-use Rattle.desk.specs.Going.{Calls, Going, FirstDue, AsksAgain, Taken, Checked}
+use Rattle.desk.specs.Going.{Calls, Going, FirstDue, AsksAgain, Checked}
 use Rattle.calls.proofs.Shapes.{Shape}
 use Rattle.calls.proofs.ShapesKept.{shape_kept, all_done}
 use Rattle.scheme.proofs.AtMostOne.{one_outcome}
@@ -35,7 +32,7 @@ use Rattle.calls.proofs.TrueEnds.{alike_asks, first_weighs}
 use Rattle.calls.proofs.StepsTold.{told_judged}
 use Rattle.calls.proofs.AsksOne.{sums_left}
 use Rattle.desk.proofs.Asked.{by_terms}
-use Rattle.desk.proofs.CardsHeld.{card_size, cards_held}
+use Rattle.desk.proofs.CardsHeld.{cards_held}
 use Rattle.desk.proofs.Exchanged.{three_calls, terms_kept, size_kept, heard, others_stay, taken_more, run_longer, steady_longer}
 
 -- what the promise says of calls on a check of cards
@@ -167,7 +164,7 @@ module _ (f : Ops) (laws : Laws f) (spread : Spread f) (promise : EveryRun) (M N
       second_ready row = record {
         station = omega (arith, one_of, stands_again.1);
         concerned = refl;
-        free = ap (λ xs. standing_of xs k) w.again.standings ∙ get_or-set_same b.standings k Free Free (omega (arith, one_of, b.full, going.terms.1, b.terms.stations_in));
+        free = standing_same b.standings k Free w.again.standings (omega (arith, one_of, b.full, going.terms.1, b.terms.stations_in));
         few = omega (arith, ap (λ c. c.handed) w.again.counts, going.handed, going.terms.1, b.terms.stations_in);
         rising = omega (arith, more, second_from, second_to);
         answered = subst (λ asked. b'.question.last ≤ index_limit asked row) (sym w.again.question.0) second_short;
@@ -180,7 +177,7 @@ module _ (f : Ops) (laws : Laws f) (spread : Spread f) (promise : EveryRun) (M N
         all_heard t within = elim (ℕ_discrete t k) [
           | yes same ↦ ap (standing e) same ∙ heard x
           | no other ↦
-              others_stay x t other ∙ ap (λ xs. standing_of xs t) w.again.standings ∙ standing_other b.standings k t Free other
+              others_stay x t other ∙ standing_other b.standings k Free w.again.standings t other
               ∙ going.heard t within.0 (omega (arith, within, ap (λ t. t.stations) (terms_kept x), stands_again.0, stands_again.1))
         ]
 

@@ -1,18 +1,17 @@
 -- What an exchange with a station leaves: its reply is in, the counts are one slip further, and the run is three calls longer.
-use Rattle.std.proofs.Common.{◌≡◌, ℕ, ◌+◌, ◌<◌, ◌≢◌, List, ◌∷◌, length, Ok, Option, sym, refl, ap, ◌∙◌, subst, set, arith, length-set, get_or-set_other, get_or-set_same}
+use Rattle.std.proofs.Common.{◌≡◌, ℕ, ◌+◌, ◌<◌, ◌≢◌, List, ◌∷◌, length, Ok, Option, sym, refl, ap, ◌∙◌, arith}
 use Rattle.field.specs.Field.{Ops}
 use Rattle.link.specs.Reading.{reply_words}
 use Rattle.link.specs.Requests.{values_due}
 use Rattle.station.specs.Serving.{answers}
 use Rattle.calls.specs.declared.book.Book.{Book}
-use Rattle.calls.specs.declared.standing.Standing.{Standing}
-use Rattle.calls.specs.declared.standing.Standing.TheVariants.{Free, Out, Heard, Done}
+use Rattle.calls.specs.declared.standing.Standing.TheVariants.{Out, Heard, Done}
 use Rattle.calls.specs.declared.slip.Returned.TheVariants.{Answered}
-use Rattle.calls.specs.Standings.{standing_of}
-use Rattle.calls.specs.Slips.{standing, Keeps}
+use Rattle.calls.specs.Slips.{standing}
 use Rattle.calls.specs.Runs.{Stage, Call, slip, take, return, AsksOnly, Run, called, slips, takes, returns}
 use Rattle.calls.specs.Steady.{Steady}
-use Rattle.desk.specs.Exchange.{Ready, Exchange}
+use Rattle.calls.proofs.StandingsSet.{standing_other, standing_same}
+use Rattle.desk.specs.Exchange.{Exchange}
 
 module _ {f : Ops} {row : List ℕ} {only : Option ℕ} {s : ℕ} {b : Book} {before : List ℕ} {b' : Book} {after : List ℕ}
     (x : Exchange f row only s b before b' after) where
@@ -42,15 +41,14 @@ module _ {f : Ops} {row : List ℕ} {only : Option ℕ} {s : ℕ} {b : Book} {be
 
   pub heard : standing b' s ≡ Done
   heard =
-      ap (standing b') (sym station_is) ∙ ap (λ ys. standing_of ys x.slip.request.station) x.returns.1.standings
-      ∙ get_or-set_same x.taken.standings x.slip.request.station Done Free inside
+      ap (standing b') (sym station_is) ∙ standing_same x.taken.standings x.slip.request.station Done x.returns.1.standings inside
 
   pub others_stay : (t : ℕ) → t ≢ s → standing b' t ≡ standing b t
   others_stay t d =
       let off : t ≢ x.slip.request.station = λ e. d (e ∙ station_is) in
-      ap (λ ys. standing_of ys t) x.returns.1.standings ∙ get_or-set_other x.taken.standings x.slip.request.station t Done Free off
-      ∙ ap (λ ys. standing_of ys t) x.takes.1.standings ∙ get_or-set_other x.handed.standings x.slip.request.station t Heard Free off
-      ∙ ap (λ ys. standing_of ys t) x.slips.1.standings ∙ get_or-set_other b.standings s t Out Free d
+      standing_other x.taken.standings x.slip.request.station Done x.returns.1.standings t off
+      ∙ standing_other x.handed.standings x.slip.request.station Heard x.takes.1.standings t off
+      ∙ standing_other b.standings s Out x.slips.1.standings t d
 
   -- the three calls, the newest first
   abbrev pub three_calls : List Call → List Call

@@ -1,16 +1,15 @@
 -- What a verdict's text says: what the rules find of the cards and, where that is right, what is true of them.
-use Rattle.std.proofs.Common.{◌≡◌, ℕ, ◌≤◌, ◌⊎◌, List, ◌++◌, inl, inr, sym, subst}
+use Rattle.std.proofs.Common.{◌≡◌, ℕ, List, ◌++◌, inl, inr, sym, subst}
 use Rattle.field.specs.Field.{Ops}
 use Rattle.binary.specs.Binary.{small}
 use Rattle.algebra.specs.Vectors.{Page}
-use Rattle.scheme.specs.Farm.{Table, Station, Same, Bad, strays}
+use Rattle.scheme.specs.Farm.{Station, Bad}
 use Rattle.scheme.proofs.Tables.{bad_same}
 use Rattle.tally.specs.Rows.{signature_in}
 use Rattle.calls.specs.declared.book.Book.{Book}
 use Rattle.calls.specs.declared.terms.Terms.{Terms}
 use Rattle.calls.specs.declared.phases.Verdict.{Verdict}
 use Rattle.calls.specs.declared.phases.Verdict.TheVariants.{Report, Split, Over}
-use Rattle.calls.specs.Opening.{Stands}
 use Rattle.calls.specs.Runs.{closed}
 use Rattle.calls.specs.Steady.{copies}
 use Rattle.calls.specs.Promise.{Judged, Right, Differs}

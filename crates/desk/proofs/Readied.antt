@@ -1,27 +1,24 @@
 -- A ready exchange is refused nowhere, and its slip comes back answered.
-use Rattle.std.proofs.Common.{◌≡◌, ℕ, suc, ◌+◌, ◌-◌, ◌≤◌, ◌<◌, ◌++◌, List, length, take, drop, Option, Ok, Err, inl, inr, sym, refl, ap, ap₂, ◌∙◌, subst, set, get_or-set_same, append-nil, arith}
+use Rattle.std.proofs.Common.{◌≡◌, ℕ, ◌+◌, ◌≤◌, ◌<◌, ◌++◌, List, length, take, Option, Ok, inl, inr, sym, refl, ap, ◌∙◌, subst, arith}
 use Rattle.std.proofs.Math.ListN.{drop_of_length-le}
 use Rattle.field.specs.Field.{Ops, Laws}
 use Rattle.field.specs.Sums.{entry}
 use Rattle.refusal.specs.declared.Refusal.{Refusal}
 use Rattle.refusal.specs.Numbers.{place}
-use Rattle.refusal.specs.Rules.{Within, Refused, Accepted}
-use Rattle.link.specs.declared.request.Request.{Request}
-use Rattle.link.specs.Requests.{Holds, request_words, values_due}
+use Rattle.refusal.specs.Rules.{Refused, Accepted}
+use Rattle.link.specs.Requests.{request_words, values_due}
 use Rattle.link.specs.Reading.{reading_reply, reply_words}
 use Rattle.station.specs.Serving.{answers, InRange, index_limit, EndsAgree, Served}
 use Rattle.tally.specs.Rows.{tally_size}
 use Rattle.calls.specs.declared.book.Book.{Book}
 use Rattle.calls.specs.declared.slip.Slip.{Slip}
 use Rattle.calls.specs.declared.slip.Returned.{Returned}
-use Rattle.calls.specs.declared.slip.Returned.TheVariants.{Answered, Blank}
-use Rattle.calls.specs.declared.standing.Standing.{Standing}
-use Rattle.calls.specs.declared.standing.Standing.TheVariants.{Free, Out, Heard, Done}
-use Rattle.calls.specs.Standings.{standing_of, SlipOut}
-use Rattle.calls.specs.Slips.{slipping, taking, returning, Slips, Takes, TakesIn, Returns, Asks, OutHere, HandsOut, standing, returned_as}
-use Rattle.desk.specs.Exchange.{Ready, Exchange}
+use Rattle.calls.specs.declared.slip.Returned.TheVariants.{Answered}
+use Rattle.calls.specs.declared.standing.Standing.TheVariants.{Out, Heard}
+use Rattle.calls.specs.Slips.{slipping, taking, returning, TakesIn, Asks, HandsOut, standing, returned_as}
+use Rattle.desk.specs.Exchange.{Ready}
 use Rattle.desk.proofs.Answered.{served_answers}
-use Rattle.calls.proofs.StandingsSet.{not_free, not_done}
+use Rattle.calls.proofs.StandingsSet.{standing_same, not_free}
 
 module _ {row : List ℕ} {only : Option ℕ} {s : ℕ} {b : Book} {room : ℕ} (r : Ready row only s b room) where
   pub slips_ready : (e : Refusal) → Refused (slipping b only s 4) e → ⊥
@@ -65,7 +62,7 @@ module _ {row : List ℕ} {only : Option ℕ} {s : ℕ} {b : Book} {room : ℕ} 
     )
 
     stands_out : standing b1 slip.request.station ≡ Out
-    stands_out = ap (standing b1) station_named ∙ ap (λ xs. standing_of xs s) out.standings ∙ get_or-set_same b.standings s Out Free (omega (arith, r.station, b.full, b.terms.stations_in))
+    stands_out = ap (standing b1) station_named ∙ standing_same b.standings s Out out.standings (omega (arith, r.station, b.full, b.terms.stations_in))
 
     module _ (f : Ops) (laws : Laws f) (agree : EndsAgree) (codes : (k : ℕ) → entry row k < f.size) (words : List ℕ)
         (told : words ≡ reply_words slip.request (answers f row slip.request)) where
@@ -83,8 +80,7 @@ module _ {row : List ℕ} {only : Option ℕ} {s : ℕ} {b : Book} {room : ℕ} 
       module _ {b2 : Book} {before after : List ℕ} (took : TakesIn f b1 slip.request words before b2 after) where
         stands_heard : standing b2 slip.request.station ≡ Heard
         stands_heard =
-            ap (λ xs. standing_of xs slip.request.station) took.standings
-            ∙ get_or-set_same b1.standings slip.request.station Heard Free (omega (arith, station_named, r.station, b1.full, b.terms.stations_in))
+            standing_same b1.standings slip.request.station Heard took.standings (omega (arith, station_named, r.station, b1.full, b.terms.stations_in))
 
         pub returns_ready : (e : Refusal) → Refused (returning b2 slip.request) e → ⊥
         returns_ready e (inl x) = x.0 (asks_here b2 (took.keeps.terms ∙ out.keeps.terms) (took.keeps.question ∙ out.keeps.question), inr stands_heard)

@@ -1,11 +1,9 @@
 -- The round of the first asking: what is ready before each exchange, and how far it is after it.
-use Rattle.std.proofs.Common.{◌≡◌, ℕ, ◌+◌, ◌-◌, ◌*◌, ◌≤◌, ◌<◌, ◌≢◌, List, [], suc, suc-mul, zero-mul, length, Option, Some, None, inl, inr, sym, refl, ap, ap₂, ◌∙◌, subst, arith}
+use Rattle.std.proofs.Common.{◌≡◌, ℕ, ◌+◌, ◌-◌, ◌*◌, ◌≤◌, ◌<◌, List, [], suc, suc-mul, zero-mul, length, None, sym, refl, ap, ap₂, ◌∙◌, subst, arith}
 use native.Mathlib.Decide.{ℕ_discrete}
 use Rattle.field.specs.Field.{Ops}
 use Rattle.refusal.specs.Rules.{Within}
 use Rattle.link.specs.Requests.{values_due}
-use Rattle.station.specs.Serving.{index_limit}
-use Rattle.station.specs.Kinds.{card_row}
 use Rattle.tally.specs.Rows.{tally_size}
 use Rattle.calls.specs.declared.book.Book.{Book}
 use Rattle.calls.specs.declared.standing.Standing.TheVariants.{Free, Done}
@@ -15,10 +13,10 @@ use Rattle.calls.specs.Runs.{first, opened}
 use Rattle.calls.specs.Opening.{Stands, Opens}
 use Rattle.calls.proofs.StandingsSet.{standing_start}
 use Rattle.desk.proofs.Asked.{by_terms, first_rising, first_short, first_answered, first_due}
-use Rattle.desk.specs.Copies.{words_of, cards}
+use Rattle.desk.specs.Copies.{cards}
 use Rattle.desk.specs.Exchange.{Ready, Exchange}
 use Rattle.desk.specs.Going.{Calls, Going, FirstDue}
-use Rattle.desk.proofs.Exchanged.{three_calls, terms_kept, question_kept, size_kept, station_is, handed_more, taken_more, heard, others_stay, run_longer, steady_longer}
+use Rattle.desk.proofs.Exchanged.{three_calls, terms_kept, question_kept, size_kept, handed_more, taken_more, heard, others_stay, run_longer, steady_longer}
 
 module _ (f : Ops) (M N bound : ℕ) (words before : List ℕ) (next : ℕ) (b : Book) (tally : List ℕ)
     (going : Going M N bound f words before next b tally) (within : Within 2 M next) where

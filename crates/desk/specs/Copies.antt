@@ -1,5 +1,5 @@
 -- The cards of a farm as one list of words, station by station.
-use Rattle.std.specs.Prelude.{◌≡◌, ℕ, suc, ◌-◌, ◌*◌, ◌≤◌, min, List, [], ◌∷◌, length, take, drop}
+use Rattle.std.specs.Prelude.{◌≡◌, ℕ, suc, ◌-◌, ◌*◌, ◌≤◌, min, List, [], ◌∷◌, take, drop}
 use Rattle.field.specs.Field.{Ops}
 use Rattle.refusal.specs.Rules.{Rule, unless}
 use Rattle.station.specs.Kinds.{card_row}

@@ -1,5 +1,5 @@
 -- One exchange with a station: a slip, the station's own answer taken under it, and the slip's return.
-use Rattle.std.specs.Prelude.{◌≡◌, ℕ, ◌<◌, ◌≤◌, ◌-◌, ◌^◌, ◌⊎◌, List, length, Ok, Option}
+use Rattle.std.specs.Prelude.{◌≡◌, ℕ, ◌<◌, ◌≤◌, ◌-◌, ◌^◌, List, Ok, Option}
 use Rattle.field.specs.Field.{Ops}
 use Rattle.refusal.specs.Rules.{Within}
 use Rattle.link.specs.Reading.{reply_words}

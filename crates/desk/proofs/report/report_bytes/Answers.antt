@@ -1,10 +1,9 @@
-use Rattle.std.proofs.Common.{◌≡◌, ◌+◌, ◌-◌, ◌++◌, [], Some, ap, ap₂, sym, subst, ◌∙◌, take, length, vec_items, arith}
+use Rattle.std.proofs.Common.{◌≡◌, ◌+◌, ◌-◌, ◌++◌, [], Some, ap, subst, ◌∙◌, length, vec_items, arith}
 use Rattle.refusal.specs.Rules.{Refused}
 use Rattle.scheme.specs.Farm.{Bad}
 use Rattle.tally.specs.Rows.{signature_in}
 use Rattle.tally.specs.Listing.{Listed}
 use Rattle.calls.specs.Listing.{listing}
-use Rattle.desk.specs.Findings.{LinesOf, copy_lines}
 use Rattle.desk.proofs.ListsShort.{report_listed}
 use Rattle.desk.proofs.LinesWritten.{lines_turn}
 use Rattle.desk.proofs.report.report_bytes.Goals as goal

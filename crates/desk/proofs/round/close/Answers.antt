@@ -1,8 +1,8 @@
-use Rattle.std.proofs.Common.{◌≡◌, ℕ, List, Ok, Some, length, sym, ap, ap₂, subst, arith}
+use Rattle.std.proofs.Common.{◌≡◌, ℕ, List, Ok, Some, length, sym, subst, arith}
 use Rattle.field.specs.Field.{Ops}
 use Rattle.calls.specs.declared.book.Book.{Book}
 use Rattle.station.specs.Kinds.{card_row}
-use Rattle.calls.specs.Closing.{Weighing, WeighAsks, WeighCloses}
+use Rattle.calls.specs.Closing.{Weighing}
 use Rattle.desk.specs.Copies.{words_of, cards}
 use Rattle.desk.specs.Exchange.{Ready, Exchange}
 use Rattle.desk.proofs.CardsClosed.{one_of, second_ready, settles_ready, by_weighing, by_settling}
