@@ -77,7 +77,7 @@ module _ (f : Ops) (holds : ℕ → List ℕ) (t : Terms) (q : Question) (g : St
           others (holds s) Sums s 1 (first_sums t.stations t.bound) (omega arith) d
           (λ i v. omega (arith, first_sums_between t.stations t.bound t.bound_in.0, t.bound_in.1)) (h s w)
     ]
-    firsts_kept (closed v) a h = tt
+    firsts_kept (closed again v) a h = tt
 
     entered_told : (AskedAt g r.station → Tells f (holds r.station) t.pages after q.asked r.station q.first q.last) → Told f holds t q xs g after
     entered_told here = record {

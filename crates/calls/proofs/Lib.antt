@@ -3,7 +3,6 @@ pub mod BadPages
 pub mod CallsAdded
 pub mod CallsTold
 pub mod Counted
-pub mod TakenFits
 pub mod EndingsFound
 pub mod EveryRun
 pub mod FirstSums
@@ -15,11 +14,13 @@ pub mod OpenedTold
 pub mod RepliesIn
 pub mod RowTells
 pub mod RowsOpened
+pub mod RulesCome
 pub mod Shapes
 pub mod ShapesKept
 pub mod StandingsSet
 pub mod StepsTold
 pub mod TakenByStage
+pub mod TakenFits
 pub mod TakenKept
 pub mod Told
 pub mod Totals

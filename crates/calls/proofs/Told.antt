@@ -20,7 +20,7 @@ module _ (f : Ops) (holds : ℕ → List ℕ) (t : Terms) where
   abbrev pub FirstsTold : Stage → (tally : List ℕ) → Type 0
   FirstsTold first tally = Unit {0}
   FirstsTold (second k) tally = (s : ℕ) → Within 2 t.stations s → Tells f (holds s) t.pages tally Sums s 1 (first_sums t.stations t.bound)
-  FirstsTold (closed v) tally = Unit {0}
+  FirstsTold (closed again v) tally = Unit {0}
 
 -- row 1 has the own copy and its sums, and each station that is asked and whose reply is in has told what is asked
 pub record Told (f : Ops) (holds : ℕ → List ℕ) (t : Terms) (q : Question) (xs : List Standing) (g : Stage) (tally : List ℕ) : Type 0 where
@@ -36,7 +36,7 @@ module _ (f : Ops) (holds : ℕ → List ℕ) (t : Terms) (q : Question) (xs : L
   abbrev ToldAt : Stage → (tally : List ℕ) → Type 0
   ToldAt first tally = Told f holds t q xs first tally
   ToldAt (second k) tally = Told f holds t q xs (second k) tally
-  ToldAt (closed v) tally = Unit {0}
+  ToldAt (closed again v) tally = Unit {0}
 
   -- what holds at each moment of a run: what is told, and that weighing and settling did what the rules say
   abbrev pub Moment : Stage → (tally : List ℕ) → Type 0

@@ -11,7 +11,6 @@ use Rattle.scheme.specs.Askings.{first_sums, all_sums, Outcome, over, split, fil
 use Rattle.scheme.specs.Weighing.{Weighs}
 use Rattle.scheme.specs.Settling.{Settles}
 use Rattle.scheme.specs.Theorem.{Alike, same_station}
-use Rattle.scheme.specs.Ending.{Comes, Fills}
 use Rattle.scheme.proofs.Depends.{weighs_depends, settles_depends}
 use Rattle.scheme.proofs.AtMostOne.{one_outcome}
 use Rattle.tally.specs.Rows.{sum_in, signature_in}
@@ -24,9 +23,9 @@ use Rattle.calls.specs.declared.phases.Verdict.TheVariants.{Report, Split, Over}
 use Rattle.calls.specs.Standings.{standing_of}
 use Rattle.calls.specs.Questions.{PlainTerms}
 use Rattle.calls.specs.Closing.{WeighEnds, SettleEnds, Finds}
-use Rattle.calls.specs.Runs.{first, second, closed}
+use Rattle.calls.specs.Runs.{first, second}
 use Rattle.calls.specs.Steady.{FarmHolds, copies, sums}
-use Rattle.calls.specs.Promise.{Judged}
+use Rattle.calls.specs.Promise.{TrulyWeighs, TrulyAsks, TrulySettles, ClosedBy}
 use Rattle.calls.proofs.AsksOne.{sums_left}
 use Rattle.calls.proofs.RowTells.{Tells, tells_as}
 use Rattle.calls.proofs.Told.{Told, FirstsTold}
@@ -39,20 +38,13 @@ pub alike_asks : {M N k : ℕ} (o : Outcome) → Alike M N o (asks k) → o ≡ 
 alike_asks o same_station = refl
 
 module _ (f : Ops) (holds : ℕ → List ℕ) (t : Terms) where
-  -- what an outcome says of the farm
-  abbrev Truly : Outcome → Type 0
-  Truly over = Comes f t.stations t.pages t.bound (sums f t.pages holds) (sums f t.pages holds) (copies holds 1) over
-  Truly (split n) = Comes f t.stations t.pages t.bound (sums f t.pages holds) (sums f t.pages holds) (copies holds 1) (split n)
-  Truly (filled R) = Fills f t.stations t.pages t.bound (sums f t.pages holds) (sums f t.pages holds) (copies holds 1) (copies holds) R
-  Truly (asks k) = (¬ PlainTerms t) × Weighs f t.stations t.pages t.bound (sums f t.pages holds) (copies holds 1) (asks k)
-
-  -- a check that closes by true outcomes closes as the rules end
-  pub closes_judged : (Ends : Outcome → Type 0) → ((o : Outcome) → Ends o → Truly o) → (before after : List ℕ) (v : Verdict)
-      → Finds Ends t.stations t.pages before after v → Judged f holds t after (closed v)
-  closes_judged Ends true before after Over x = true over x.0
-  closes_judged Ends true before after (Split n) (inl x) = inl (true (split n) x.0)
-  closes_judged Ends true before after (Split n) (inr x) = inr (x.0, true (filled x.0) x.1, x.3)
-  closes_judged Ends true before after Report x = (x.0, (true (filled x.0) x.1, x.3), x.2.rows)
+  -- a check that closes by outcomes that are true closes truly
+  pub closes_truly : (Ends True : Outcome → Type 0) → ((o : Outcome) → Ends o → True o) → (before after : List ℕ) (v : Verdict)
+      → Finds Ends t.stations t.pages before after v → ClosedBy f holds t after True v
+  closes_truly Ends True true before after Over x = true over x.0
+  closes_truly Ends True true before after (Split n) (inl x) = inl (true (split n) x.0)
+  closes_truly Ends True true before after (Split n) (inr x) = inr (x.0, true (filled x.0) x.1, x.3)
+  closes_truly Ends True true before after Report x = (x.0, true (filled x.0) x.1, x.3, x.2.rows)
 
   module _ (farm : FarmHolds f t.stations t.pages holds) (tally : List ℕ) where
     -- a sum that is told is the station's
@@ -96,20 +88,21 @@ module _ (f : Ops) (holds : ℕ → List ℕ) (t : Terms) where
         | inr x ↦ absurd (x.0 plain)
       ]
 
-      pub first_weighs : ¬ PlainTerms t → (o : Outcome) → Weighs f t.stations t.pages t.bound (sum_in tally t.pages) (signature_in tally t.pages 1) o
+      first_weighs : ¬ PlainTerms t → (o : Outcome) → Weighs f t.stations t.pages t.bound (sum_in tally t.pages) (signature_in tally t.pages 1) o
           → Weighs f t.stations t.pages t.bound (sums f t.pages holds) (copies holds 1) o
       first_weighs not = true_weighs farm tally told.own told.own_sums not 0 (firsts_told not 0)
 
-      pub weigh_true : (o : Outcome) → WeighEnds f t tally o → Truly o
-      weigh_true o (inl x) = subst Truly (sym x.1) (inl (x.2, λ s n c p. x.3 s n c p ∙ rows_told x.2 s n c p))
-      weigh_true over (inr (not, w)) = (not, inl (first_weighs not over w))
-      weigh_true (split n) (inr (not, w)) = (not, inl (first_weighs not (split n) w))
-      weigh_true (filled R) (inr (not, w)) = inr (not, inl (first_weighs not (filled R) w))
-      weigh_true (asks k) (inr (not, w)) = (not, first_weighs not (asks k) w)
+      pub weigh_true : (o : Outcome) → WeighEnds f t tally o → TrulyWeighs f holds t o
+      weigh_true o (inl x) = inl (x.0, x.1, x.2, λ s n c p. x.3 s n c p ∙ rows_told x.2 s n c p)
+      weigh_true o (inr (not, w)) = inr (not, first_weighs not o w)
+
+      pub asks_true : (k : ℕ) → WeighEnds f t tally (asks k) → TrulyAsks f holds t k
+      asks_true k (inl x) = absurd (let e = x.1 in cc)
+      asks_true k (inr (not, w)) = (not, first_weighs not (asks k) w)
 
     -- ── settling
     module _ (l : Laws f) (spread : Spread f) (pages : Within 1 (page_limit f) t.pages) (k : ℕ) (a : StageAsks t (second k) q)
-        (judged : Judged f holds t tally (second k)) (told : Told f holds t q xs (second k) tally) (done : standing_of xs k ≡ Done) where
+        (judged : TrulyAsks f holds t k) (told : Told f holds t q xs (second k) tally) (done : standing_of xs k ≡ Done) where
       weighs : (o : Outcome) → Weighs f t.stations t.pages t.bound (sum_in tally t.pages) (signature_in tally t.pages 1) o
           → Weighs f t.stations t.pages t.bound (sums f t.pages holds) (copies holds 1) o
       weighs = true_weighs farm tally told.own told.own_sums a.0 k told.firsts
@@ -123,14 +116,11 @@ module _ (f : Ops) (holds : ℕ → List ℕ) (t : Terms) where
             (tells_as f (holds k) t.pages tally k a.2.0 a.2.1 a.2.2 (told.replies k a.1 refl (ap reply_in done))) (omega arith)
       ]
 
-      -- nobody else is asked again
-      asked_one : (i : ℕ) → Weighs f t.stations t.pages t.bound (sum_in tally t.pages) (signature_in tally t.pages 1) (asks i) → i ≡ k
-      asked_one i w =
-          let same =
-          alike_asks (asks i) ((one_outcome f l spread t.stations t.pages t.bound (omega (arith, pages.1)) (sums f t.pages holds) (sums f t.pages holds) (copies holds 1)
-          (asks i) (asks k)).0 (weighs (asks i) w) judged.1)
-          in
-          cc
+      -- weighing again comes to nothing else
+      asked_one : (o : Outcome) → Weighs f t.stations t.pages t.bound (sum_in tally t.pages) (signature_in tally t.pages 1) o → o ≡ asks k
+      asked_one o w =
+          alike_asks o ((one_outcome f l spread t.stations t.pages t.bound (omega (arith, pages.1)) (sums f t.pages holds) (sums f t.pages holds) (copies holds 1)
+          o (asks k)).0 (weighs o w) judged.1)
 
       more : t.stations ≡ 3 → first_sums 3 t.bound < all_sums t.pages t.bound
       more three =
@@ -144,13 +134,14 @@ module _ (f : Ops) (holds : ℕ → List ℕ) (t : Terms) where
           (first_sums_told farm tally told.own told.own_sums a.0 k told.firsts) told.own more
           (sum_in tally t.pages) (sums f t.pages holds)
           (λ j p. told_sum farm tally 1 1 (all_sums t.pages t.bound) j (omega (arith, t.stations_in.0)) told.own_sums (omega arith))
-          (λ i j w p. subst (λ i. sum_in tally t.pages i j ≡ sums f t.pages holds i j) (sym (asked_one i w)) (all_told j p))
+          (λ i j w p. let same : i ≡ k = (let e = asked_one (asks i) w in cc) in
+          subst (λ i. sum_in tally t.pages i j ≡ sums f t.pages holds i j) (sym same) (all_told j p))
 
-      pub settle_true : (o : Outcome) → SettleEnds f t tally o → Truly o
-      settle_true over (inl w) = (a.0, inl (weighs over w))
-      settle_true over (inr x) = (a.0, inr ((k, judged.1), settles over x))
-      settle_true (split n) (inl w) = (a.0, inl (weighs (split n) w))
-      settle_true (split n) (inr x) = (a.0, inr ((k, judged.1), settles (split n) x))
-      settle_true (filled R) (inl w) = inr (a.0, inl (weighs (filled R) w))
-      settle_true (filled R) (inr x) = inr (a.0, inr ((k, judged.1), settles (filled R) x))
+      pub settle_true : (o : Outcome) → SettleEnds f t tally o → TrulySettles f holds t o
+      settle_true over (inl w) = absurd (let e = asked_one over w in cc)
+      settle_true over (inr x) = settles over x
+      settle_true (split n) (inl w) = absurd (let e = asked_one (split n) w in cc)
+      settle_true (split n) (inr x) = settles (split n) x
+      settle_true (filled R) (inl w) = absurd (let e = asked_one (filled R) w in cc)
+      settle_true (filled R) (inr x) = settles (filled R) x
       settle_true (asks i) x = absurd x

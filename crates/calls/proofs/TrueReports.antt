@@ -1,5 +1,5 @@
 -- Where weighing and settling did what the rules say, and strays are few or the check is plain, what was found is right.
-use Rattle.std.proofs.Common.{ℕ, ◌≤◌, ◌⊎◌, List, sym, ◌∙◌, refl, inl, inr, arith}
+use Rattle.std.proofs.Common.{ℕ, ◌≤◌, ◌⊎◌, List, Option, sym, ◌∙◌, refl, inl, inr, arith}
 use Rattle.field.specs.Field.{Ops, Laws, Spread, page_limit}
 use Rattle.refusal.specs.Rules.{Within}
 use Rattle.scheme.specs.Farm.{Same, Bad, strays}
@@ -8,11 +8,13 @@ use Rattle.scheme.proofs.Tables.{bad_same}
 use Rattle.scheme.proofs.Truth.{right}
 use Rattle.tally.specs.Rows.{signature_in}
 use Rattle.calls.specs.declared.terms.Terms.{Terms}
+use Rattle.calls.specs.declared.phases.Verdict.{Verdict}
 use Rattle.calls.specs.declared.phases.Verdict.TheVariants.{Report, Split, Over}
 use Rattle.calls.specs.Questions.{PlainTerms}
 use Rattle.calls.specs.Runs.{Stage, first, second, closed}
 use Rattle.calls.specs.Steady.{FarmHolds, copies, sums}
 use Rattle.calls.specs.Promise.{Judged, Differs, Right}
+use Rattle.calls.proofs.RulesCome.{Ended, rules_come}
 use Rattle.calls.proofs.BadPages.{bad_differs, differs_bad, listed_as}
 
 module _ (f : Ops) (l : Laws f) (spread : Spread f) (holds : ℕ → List ℕ) (t : Terms) (pages : Within 1 (page_limit f) t.pages)
@@ -25,12 +27,10 @@ module _ (f : Ops) (l : Laws f) (spread : Spread f) (holds : ℕ → List ℕ) (
       told : Told f t.stations t.pages t.bound (copies holds) (sums f t.pages holds) (sums f t.pages holds) (copies holds 1)
       told = record { own_row = λ n p. refl; first = λ s j a p. refl; own_sums = λ j p. refl; second = λ k j w p. refl }
 
-  pub true_reports : (tally : List ℕ) (g : Stage) → Judged f holds t tally g → Right holds t tally g
-  true_reports tally first x = tt
-  true_reports tally (second k) x = tt
-  true_reports tally (closed Over) x = finds.never_over x
-  true_reports tally (closed (Split n)) x = finds.split_true n x
-  true_reports tally (closed Report) (R, x, same) = record {
+  closed_right : (tally : List ℕ) (again : Option ℕ) (v : Verdict) → Ended f holds t tally v → Right holds t tally (closed again v)
+  closed_right tally again Over x = finds.never_over x
+  closed_right tally again (Split n) x = finds.split_true n x
+  closed_right tally again Report (R, x, same) = record {
     decided = (finds.report_true R x).0;
     rows = rows;
     lists = λ s count before after h.
@@ -43,3 +43,8 @@ module _ (f : Ops) (l : Laws f) (spread : Spread f) (holds : ℕ → List ℕ) (
     where
       rows : Same t.stations t.pages (signature_in tally t.pages) (copies holds)
       rows s n a p = same s n a p ∙ finds.rows_true R x.0 s n a p
+
+  pub true_reports : (tally : List ℕ) (g : Stage) → Judged f holds t tally g → Right holds t tally g
+  true_reports tally first x = tt
+  true_reports tally (second k) x = tt
+  true_reports tally (closed again v) x = closed_right tally again v (rules_come f holds t tally again v x)

@@ -1,17 +1,18 @@
 -- The promise: what holds at every moment of every run of calls on a check.
-use Rattle.std.specs.Prelude.{◌≡◌, ℕ, ◌+◌, ◌-◌, ◌*◌, ◌≤◌, min, cond, ◌≢◌, ◌⊎◌, List, [], ◌∷◌, length, Some, Ok, Err, ◌==◌}
+use Rattle.std.specs.Prelude.{◌≡◌, ℕ, ◌+◌, ◌-◌, ◌*◌, ◌≤◌, min, cond, ◌≢◌, ◌⊎◌, List, [], ◌∷◌, length, Some, None, Ok, Err, ◌==◌}
 use Rattle.field.specs.Field.{Ops, Laws, Spread}
 use Rattle.algebra.specs.Vectors.{Page}
 use Rattle.scheme.specs.Farm.{Table, Same, Majority, Decided, strays}
-use Rattle.scheme.specs.Askings.{first_sums, over, asks}
+use Rattle.scheme.specs.Askings.{first_sums, Outcome, over, split, filled, asks}
 use Rattle.scheme.specs.Weighing.{Weighs}
-use Rattle.scheme.specs.Closing.{Reports}
-use Rattle.scheme.specs.Ending.{Comes, EndsSplit, EndsReport}
+use Rattle.scheme.specs.Closing.{Splits, Reports}
+use Rattle.scheme.specs.Settling.{Settles}
 use Rattle.tally.specs.Rows.{signature_in}
 use Rattle.tally.specs.Listing.{Listed}
 use Rattle.calls.specs.declared.book.Book.{Book}
 use Rattle.calls.specs.declared.terms.Terms.{Terms}
 use Rattle.calls.specs.declared.slip.Returned.TheVariants.{Answered, Blank}
+use Rattle.calls.specs.declared.phases.Verdict.{Verdict}
 use Rattle.calls.specs.declared.phases.Verdict.TheVariants.{Report, Split, Over}
 use Rattle.calls.specs.Questions.{PlainTerms}
 use Rattle.calls.specs.Listing.{Listing}
@@ -82,19 +83,36 @@ pub record Counted (ks : List Call) (b : Book) : Type 0 where
 
 -- ── answers
 
-module _ (f : Ops) (holds : ℕ → List ℕ) (t : Terms) (tally : List ℕ) where
-  -- Weighing and settling did what the rules say of the sums that the stations hold: the second asking goes to the station that they name, and the
-  -- check closes as they end. The rows of a report are those that they fill.
-  abbrev pub Judged : Stage → Type 0
-  Judged first = Unit {0}
-  Judged (second k) = (¬ PlainTerms t) × Weighs f t.stations t.pages t.bound (sums f t.pages holds) (copies holds 1) (asks k)
-  Judged (closed Over) = Comes f t.stations t.pages t.bound (sums f t.pages holds) (sums f t.pages holds) (copies holds 1) over
-  Judged (closed (Split n)) =
-      EndsSplit f t.stations t.pages t.bound (sums f t.pages holds) (sums f t.pages holds) (copies holds 1) (copies holds) n
-  Judged (closed Report) =
-      (R : Table)
-      × EndsReport f t.stations t.pages t.bound (sums f t.pages holds) (sums f t.pages holds) (copies holds 1) (copies holds) R
-      × Same t.stations t.pages (signature_in tally t.pages) R
+module _ (f : Ops) (holds : ℕ → List ℕ) (t : Terms) where
+  -- what weighing comes to by what the stations hold: in a plain check the rows at hand, else what the rules say of the first sums
+  abbrev pub TrulyWeighs : Outcome → Type 0
+  TrulyWeighs o =
+      ((R : Table) × (o ≡ filled R) × PlainTerms t × Same t.stations t.pages R (copies holds))
+      ⊎ ((¬ PlainTerms t) × Weighs f t.stations t.pages t.bound (sums f t.pages holds) (copies holds 1) o)
+
+  -- weighing asks station k again
+  abbrev pub TrulyAsks : ℕ → Type 0
+  TrulyAsks k = (¬ PlainTerms t) × Weighs f t.stations t.pages t.bound (sums f t.pages holds) (copies holds 1) (asks k)
+
+  -- what settling comes to
+  abbrev pub TrulySettles : Outcome → Type 0
+  TrulySettles o = Settles f t.stations t.pages t.bound (sums f t.pages holds) (sums f t.pages holds) (copies holds 1) o
+
+  module _ (tally : List ℕ) where
+    -- the check closed with this verdict as these outcomes end; the rows of a report are those that are filled
+    abbrev pub ClosedBy : (Outcome → Type 0) → Verdict → Type 0
+    ClosedBy Ends Over = Ends over
+    ClosedBy Ends (Split n) = Ends (split n) ⊎ ((R : Table) × Ends (filled R) × Splits t.stations t.pages R n)
+    ClosedBy Ends Report =
+        (R : Table) × Ends (filled R) × Reports t.stations t.pages R × Same t.stations t.pages (signature_in tally t.pages) R
+
+    -- Weighing and settling did what the rules say of what the stations hold: weighing closed the check, or it named the station that is asked again,
+    -- and settling then closed it.
+    abbrev pub Judged : Stage → Type 0
+    Judged first = Unit {0}
+    Judged (second k) = TrulyAsks k
+    Judged (closed None v) = ClosedBy TrulyWeighs v
+    Judged (closed (Some k) v) = TrulyAsks k × ClosedBy TrulySettles v
 
 -- the copy of page n at station s differs from what more than half of the stations hold
 abbrev pub Differs : ℕ → Table → (s n : ℕ) → Type 0
@@ -112,12 +130,12 @@ pub record ReportRight (holds : ℕ → List ℕ) (t : Terms) (tally : List ℕ)
 abbrev pub Right : (ℕ → List ℕ) → Terms → (tally : List ℕ) → Stage → Type 0
 Right holds t tally first = Unit {0}
 Right holds t tally (second k) = Unit {0}
-Right holds t tally (closed Over) = ⊥
-Right holds t tally (closed (Split n)) = Page t.pages n × (¬ Decided t.stations (copies holds) n)
-Right holds t tally (closed Report) = ReportRight holds t tally
+Right holds t tally (closed again Over) = ⊥
+Right holds t tally (closed again (Split n)) = Page t.pages n × (¬ Decided t.stations (copies holds) n)
+Right holds t tally (closed again Report) = ReportRight holds t tally
 
--- THE PROMISE. In every field, for every own copy, at every moment of every run: the counts are those of the calls. If the farm was steady, weighing and settling did what the rules say; and if there are no more stray copies than the
--- bound, or the check is plain, what was found is right.
+-- THE PROMISE. In every field, for every own copy, at every moment of every run: the counts are those of the calls. If the farm was steady, weighing and
+-- settling did what the rules say; and if there are no more stray copies than the bound, or the check is plain, what was found is right.
 abbrev pub EveryRun : Type 0
 EveryRun =
     (f : Ops) → Laws f → Spread f → (own tally : List ℕ) (ks : List Call) (b : Book) (g : Stage) → Run f own tally ks b g →

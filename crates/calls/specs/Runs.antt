@@ -11,23 +11,23 @@ use Rattle.calls.specs.Slips.{Slips, Takes, Returns}
 use Rattle.calls.specs.Closing.{WeighCloses, WeighAsks, SettleCloses, NotClosed}
 use Rattle.calls.specs.Listing.{Listing}
 
--- how far a check is: in the first asking, in the second, of station k, or closed with a verdict
+-- how far a check is: in the first asking; in the second, of station k; or closed with a verdict, after a second asking or without one
 pub data Stage : Type 0 where
   first : Stage
   second : (k : ℕ) → Stage
-  closed : Verdict → Stage
+  closed : (again : Option ℕ) → Verdict → Stage
 
 -- an asking, and the one station that is asked if not all are; a closed check asks nobody
 abbrev pub AsksOnly : Stage → Option ℕ → Type 0
 AsksOnly first only = only ≡ None
 AsksOnly (second k) only = only ≡ Some k
-AsksOnly (closed v) only = ⊥
+AsksOnly (closed again v) only = ⊥
 
 -- the verdict, once the check is closed
 abbrev pub found : Stage → Option Verdict
 found first = None
 found (second k) = None
-found (closed v) = Some v
+found (closed again v) = Some v
 
 -- A call with its inputs and its answer; of a tally and a buffer, what it held before the call and after it.
 pub data Call : Type 0 where
@@ -46,10 +46,10 @@ pub data Step (f : Ops) : Book → Stage → Call → Book → Stage → Type 0 
       → AsksOnly g only → Takes f b p.request w t r b' t' → Step f b g (take p w t r t') b' g
   returns : {b b' : Book} {g : Stage} {p : Slip} {r : Result Returned Refusal}
       → Returns b p.request r b' → Step f b g (return p r) b' g
-  weigh_closes : {b b' : Book} {v : Verdict} {t t' : List ℕ} → WeighCloses f b t v b' t' → Step f b first (weigh t t') b' (closed v)
+  weigh_closes : {b b' : Book} {v : Verdict} {t t' : List ℕ} → WeighCloses f b t v b' t' → Step f b first (weigh t t') b' (closed None v)
   weigh_asks : {b b' : Book} {k : ℕ} {t t' : List ℕ} → WeighAsks f b t k b' t' → Step f b first (weigh t t') b' (second k)
   weigh_refused : {b b' : Book} {t t' : List ℕ} (e : Refusal) → NotClosed b t e b' t' → Step f b first (weigh t t') b' first
-  settle_closes : {b b' : Book} {k : ℕ} {v : Verdict} {t t' : List ℕ} → SettleCloses f b t v b' t' → Step f b (second k) (settle t t') b' (closed v)
+  settle_closes : {b b' : Book} {k : ℕ} {v : Verdict} {t t' : List ℕ} → SettleCloses f b t v b' t' → Step f b (second k) (settle t t') b' (closed (Some k) v)
   settle_refused : {b b' : Book} {k : ℕ} {t t' : List ℕ} (e : Refusal) → NotClosed b t e b' t' → Step f b (second k) (settle t t') b' (second k)
   lists : {b : Book} {g : Stage} {s : ℕ} {t o o' : List ℕ} {r : Result ℕ Refusal}
       → Listing b.terms (found g) s t o r o' → Step f b g (list s t o r o') b g

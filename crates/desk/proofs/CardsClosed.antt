@@ -1,5 +1,5 @@
 -- How a check of cards ends: by weighing, or by one more exchange and settling.
-use Rattle.std.proofs.Common.{◌≡◌, ℕ, suc, ◌+◌, ◌-◌, ◌*◌, ◌≤◌, ◌<◌, ◌≢◌, ◌⊎◌, List, ◌∷◌, length, Some, inl, inr, sym, refl, ap, ap₂, ◌∙◌, subst, arith}
+use Rattle.std.proofs.Common.{◌≡◌, ℕ, suc, ◌+◌, ◌-◌, ◌*◌, ◌≤◌, ◌<◌, ◌≢◌, ◌⊎◌, List, ◌∷◌, length, Some, None, inl, inr, sym, refl, ap, ap₂, ◌∙◌, subst, arith}
 use Rattle.field.specs.Field.{Ops, Laws, Spread}
 use native.Mathlib.Decide.{ℕ_discrete}
 use Rattle.refusal.specs.declared.Refusal.{Refusal}
@@ -15,21 +15,21 @@ use Rattle.calls.specs.declared.phases.Verdict.{Verdict}
 use Rattle.calls.specs.declared.phases.Verdict.TheVariants.{Report, Split, Over}
 use Rattle.calls.specs.declared.standing.Standing.TheVariants.{Free, Done}
 use Rattle.calls.specs.Questions.{PlainTerms}
+use Rattle.calls.specs.declared.terms.Terms.{Terms}
 use Rattle.calls.specs.Opening.{Stands}
 use Rattle.calls.proofs.StandingsSet.{standing_other, standing_same, not_done}
 use Rattle.calls.specs.Closing.{closing, WeighCloses, WeighAsks, WeighEnds, SettleEnds, SettleCloses, Finds}
 use Rattle.calls.specs.Slips.{standing}
-use Rattle.calls.specs.Runs.{Stage, first, second, closed, weigh, settle, called, weigh_closes, weigh_asks, settle_closes}
+use Rattle.calls.specs.Runs.{Stage, second, closed, weigh, settle, called, weigh_closes, weigh_asks, settle_closes}
 use Rattle.calls.specs.Steady.{copies, sums, FarmHolds}
-use Rattle.calls.specs.Promise.{Judged, Right, EveryRun}
+use Rattle.calls.specs.Promise.{TrulyWeighs, TrulyAsks, ClosedBy, Judged, Right, EveryRun}
 use Rattle.desk.specs.Copies.{cards}
 use Rattle.desk.specs.Exchange.{Ready, Exchange}
 use Rattle.desk.specs.Going.{Calls, Going, FirstDue, AsksAgain, Checked}
 use Rattle.calls.proofs.Shapes.{Shape}
-use Rattle.calls.proofs.ShapesKept.{shape_kept, all_done}
+use Rattle.calls.proofs.ShapesKept.{shape_kept}
 use Rattle.scheme.proofs.AtMostOne.{one_outcome}
-use Rattle.calls.proofs.TrueEnds.{alike_asks, first_weighs}
-use Rattle.calls.proofs.StepsTold.{told_judged}
+use Rattle.calls.proofs.TrueEnds.{alike_asks}
 use Rattle.calls.proofs.AsksOne.{sums_left}
 use Rattle.desk.proofs.Asked.{by_terms}
 use Rattle.desk.proofs.CardsHeld.{cards_held}
@@ -51,11 +51,12 @@ module _ (f : Ops) (laws : Laws f) (spread : Spread f) (promise : EveryRun) (M N
       )
 
 -- a check closes by an outcome that asks nobody
-closing_outcome : (Ends : Outcome → Type 0) (M N : ℕ) (before after : List ℕ) (v : Verdict) → Finds Ends M N before after v → (o : Outcome) × Ends o × ((k : ℕ) → o ≢ asks k)
-closing_outcome Ends M N before after Over x = (over, x.0, λ k e. cc)
-closing_outcome Ends M N before after (Split n) (inl x) = (split n, x.0, λ k e. cc)
-closing_outcome Ends M N before after (Split n) (inr x) = (filled x.0, x.1, λ k e. cc)
-closing_outcome Ends M N before after Report x = (filled x.0, x.1, λ k e. cc)
+closing_outcome : (f : Ops) (holds : ℕ → List ℕ) (t : Terms) (tally : List ℕ) (v : Verdict) → ClosedBy f holds t tally (TrulyWeighs f holds t) v
+    → (o : Outcome) × TrulyWeighs f holds t o × ((k : ℕ) → o ≢ asks k)
+closing_outcome f holds t tally Over x = (over, x, λ k e. cc)
+closing_outcome f holds t tally (Split n) (inl x) = (split n, x, λ k e. cc)
+closing_outcome f holds t tally (Split n) (inr x) = (filled x.0, x.1, λ k e. cc)
+closing_outcome f holds t tally Report x = (filled x.0, x.1, λ k e. cc)
 
 -- closing keeps the tally's length
 finds_size : (Ends : Outcome → Type 0) (M N : ℕ) (before after : List ℕ) (v : Verdict) → Finds Ends M N before after v → length after ≡ length before
@@ -78,7 +79,7 @@ module _ (f : Ops) (laws : Laws f) (spread : Spread f) (promise : EveryRun) (M N
     all_taken = going.due first_asked.0 first_asked.1 ∙ ap (λ k. k * first_asked.0) (let e : M + 1 - 2 ≡ M - 1 = omega arith in e)
 
     module _ (v : Verdict) (b' : Book) (after : List ℕ) (w : WeighCloses f b tally v b' after) where
-      calls_weighed : Calls f M N bound words before b' (closed v) after
+      calls_weighed : Calls f M N bound words before b' (closed None v) after
       calls_weighed =
           let so = going.so_far in
           record {
@@ -90,30 +91,32 @@ module _ (f : Ops) (laws : Laws f) (spread : Spread f) (promise : EveryRun) (M N
             steady = (refl, so.steady);
           }
 
+      stands_closed : Stands b'.terms 1 M N bound
+      stands_closed = subst (λ (b : Book). Stands b.terms 1 M N bound) (sym w.book) going.terms
+
+      -- weighing, by the promise, came to an outcome that asks nobody, and it comes to no other
       nobody_again : ¬ AsksAgain M N bound f words
       nobody_again again =
-          let so = going.so_far in
-          let held = by_terms (λ M' N' bound'. FarmHolds f M' N' (cards f N words) → FarmHolds f b.terms.stations b.terms.pages (cards f N words)) b.terms 1 M N bound going.terms (λ h. h) (cards_held f M N words whole laws) in
-          let told = (told_judged f laws spread (cards f N words) (cards f N words 1) so.opened so.calls b first so.run held tally so.steady).0 in
-          let shape = shape_kept f laws spread (cards f N words 1) so.opened so.calls b first so.run in
-          let o = closing_outcome (WeighEnds f b.terms tally) b.terms.stations b.terms.pages tally after v w.finds in
-          let there : (¬ PlainTerms b.terms) × ((k : ℕ) × Weighs f b.terms.stations b.terms.pages b.terms.bound (sums f b.terms.pages (cards f N words)) (copies (cards f N words) 1) (asks k))
-          = by_terms (λ M' N' bound'. (¬ Plain M' N' bound') × ((k : ℕ) × Weighs f M' N' bound' (sums f N' (cards f N words)) (copies (cards f N words) 1) (asks k))
-          → (¬ PlainTerms b.terms) × ((k : ℕ) × Weighs f b.terms.stations b.terms.pages b.terms.bound (sums f b.terms.pages (cards f N words)) (copies (cards f N words) 1) (asks k))) b.terms 1 M N bound going.terms (λ a. a) again in
+          let t = b'.terms in
+          let holds = cards f N words in
+          let o = closing_outcome f holds t after v (judged_right f laws spread promise M N bound words before whole b' (closed None v) after stands_closed calls_weighed).0 in
+          let shape = shape_kept f laws spread (holds 1) calls_weighed.opened calls_weighed.calls b' (closed None v) calls_weighed.run in
+          let there : (k : ℕ) × TrulyAsks f holds t k
+          = by_terms (λ M' N' bound'. ((¬ Plain M' N' bound') × ((k : ℕ) × Weighs f M' N' bound' (sums f N' holds) (copies holds 1) (asks k))) → (k : ℕ) × TrulyAsks f holds t k)
+          t 1 M N bound stands_closed (λ a. (a.1.0, (a.0, a.1.1))) again in
           elim o.1 [
-            | inl hand ↦ there.0 hand.2
+            | inl hand ↦ there.1.0 hand.2
             | inr x ↦
-                o.2 there.1.0 (alike_asks o.0 ((one_outcome f laws spread b.terms.stations b.terms.pages b.terms.bound (omega (arith, shape.pages)) (sums f b.terms.pages (cards f N words))
-                (sums f b.terms.pages (cards f N words)) (copies (cards f N words) 1) o.0 (asks there.1.0)).0
-                (first_weighs f (cards f N words) b.terms held b.question b.standings tally shape.question told
-                (all_done b (length tally) w.accepted) x.0 o.0 x.1) there.1.1))
+                o.2 there.0 (alike_asks o.0 ((one_outcome f laws spread t.stations t.pages t.bound (omega (arith, shape.pages)) (sums f t.pages holds) (sums f t.pages holds) (copies holds 1)
+                o.0 (asks there.0)).0 x.1 there.1.1))
           ]
 
       pub by_weighing : Checked M N bound f words before b' v after
       by_weighing =
-          let r = judged_right f laws spread promise M N bound words before whole b' (closed v) after (subst (λ (b : Book). Stands b.terms 1 M N bound) (sym w.book) going.terms) calls_weighed in
+          let r = judged_right f laws spread promise M N bound words before whole b' (closed None v) after stands_closed calls_weighed in
           record {
-            terms = subst (λ (b : Book). Stands b.terms 1 M N bound) (sym w.book) going.terms;
+            again = None;
+            terms = stands_closed;
             fits = omega (arith, going.fits, finds_size (WeighEnds f b.terms tally) b.terms.stations b.terms.pages tally after v w.finds);
             by_calls = calls_weighed;
             taken = (first_asked.0, first_asked.1, inr (nobody_again, ap (λ (b : Book). b.counts.taken) w.book ∙ all_taken));
@@ -194,7 +197,7 @@ module _ (f : Ops) (laws : Laws f) (spread : Spread f) (promise : EveryRun) (M N
 
       module _ (e : Book) (told : List ℕ) (x : Exchange f (cards f N words k) (Some k) k b' asked e told) (v : Verdict) (d : Book) (after : List ℕ)
           (s : SettleCloses f e told v d after) where
-        calls_settled : Calls f M N bound words before d (closed v) after
+        calls_settled : Calls f M N bound words before d (closed (Some k) v) after
         calls_settled =
             let so = calls_asked in
             record {
@@ -215,9 +218,10 @@ module _ (f : Ops) (laws : Laws f) (spread : Spread f) (promise : EveryRun) (M N
 
         pub by_settling : Checked M N bound f words before d v after
         by_settling =
-            let r = judged_right f laws spread promise M N bound words before whole d (closed v) after
+            let r = judged_right f laws spread promise M N bound words before whole d (closed (Some k) v) after
             (subst (λ (b : Book). Stands b.terms 1 M N bound) (sym s.book) (subst (λ t. Stands t 1 M N bound) (sym (terms_kept x)) stands_again)) calls_settled in
             record {
+              again = Some k;
               terms = subst (λ (b : Book). Stands b.terms 1 M N bound) (sym s.book) (subst (λ t. Stands t 1 M N bound) (sym (terms_kept x)) stands_again);
               fits = omega (arith, going.fits, ap length w.written, size_kept x, finds_size (SettleEnds f e.terms told) e.terms.stations e.terms.pages told after v s.finds);
               by_calls = calls_settled;

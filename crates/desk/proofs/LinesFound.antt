@@ -1,5 +1,5 @@
 -- What a verdict's text says: what the rules find of the cards and, where that is right, what is true of them.
-use Rattle.std.proofs.Common.{◌≡◌, ℕ, List, ◌++◌, inl, inr, sym, subst}
+use Rattle.std.proofs.Common.{◌≡◌, ℕ, List, Option, ◌++◌, inl, inr, sym, subst}
 use Rattle.field.specs.Field.{Ops}
 use Rattle.binary.specs.Binary.{small}
 use Rattle.algebra.specs.Vectors.{Page}
@@ -12,7 +12,8 @@ use Rattle.calls.specs.declared.phases.Verdict.{Verdict}
 use Rattle.calls.specs.declared.phases.Verdict.TheVariants.{Report, Split, Over}
 use Rattle.calls.specs.Runs.{closed}
 use Rattle.calls.specs.Steady.{copies}
-use Rattle.calls.specs.Promise.{Judged, Right, Differs}
+use Rattle.calls.proofs.RulesCome.{Ended, rules_come}
+use Rattle.calls.specs.Promise.{Right, Differs}
 use Rattle.calls.proofs.BadPages.{lists_as, bad_differs, differs_bad}
 use Rattle.desk.proofs.Asked.{by_terms}
 use Rattle.desk.specs.Findings.{LinesOf, VerdictText, RulesFind, TrueFind, FarmText, sums_line}
@@ -26,7 +27,7 @@ lines_as M N Q P to from text (pages, lists, is) =
     (pages, λ s station. lists_as N (Q s) (P s) (λ n p. to s n station p) (λ n p. from s n station p) (pages s) (lists s station), is)
 
 module _ (f : Ops) (holds : ℕ → List ℕ) (t : Terms) (tally : List ℕ) (text : List ℕ) where
-  pub rules_found : (v : Verdict) → Judged f holds t tally (closed v) → VerdictText t.stations t.pages tally v text
+  pub rules_found : (v : Verdict) → Ended f holds t tally v → VerdictText t.stations t.pages tally v text
       → RulesFind f t.stations t.pages t.bound holds text
   rules_found Over judged is = inl (judged, is)
   rules_found (Split n) judged is = inr (inl (n, judged, is))
@@ -39,10 +40,10 @@ module _ (f : Ops) (holds : ℕ → List ℕ) (t : Terms) (tally : List ℕ) (te
             (λ s n a p. bad_same t.stations t.pages (signature_in tally t.pages) R same n p s a) text lines,
       ))
 
-  pub truth_found : (v : Verdict) → Right holds t tally (closed v) → VerdictText t.stations t.pages tally v text → TrueFind t.stations t.pages holds text
-  truth_found Over right is = absurd right
-  truth_found (Split n) right is = inl (n, right.0, right.1, is)
-  truth_found Report right lines =
+  pub truth_found : (again : Option ℕ) (v : Verdict) → Right holds t tally (closed again v) → VerdictText t.stations t.pages tally v text → TrueFind t.stations t.pages holds text
+  truth_found again Over right is = absurd right
+  truth_found again (Split n) right is = inl (n, right.0, right.1, is)
+  truth_found again Report right lines =
       inr (
         right.decided,
         lines_as t.stations t.pages (Bad t.stations (signature_in tally t.pages)) (Differs t.stations (copies holds))
@@ -61,9 +62,9 @@ farm_text M N bound signatures words same before b v after checked body told out
       count = b.counts.taken;
       text = is;
       taken = checked.taken;
-      rules = by_terms (λ M N' bound. RulesFind small M N' bound holds body) b.terms 1 M N bound checked.terms (rules_found small holds b.terms after body v checked.judged lines);
+      rules = by_terms (λ M N' bound. RulesFind small M N' bound holds body) b.terms 1 M N bound checked.terms (rules_found small holds b.terms after body v (rules_come small holds b.terms after checked.again v checked.judged) lines);
       true = λ given.
-          by_terms (λ M N' bound. TrueFind M N' holds body) b.terms 1 M N bound checked.terms (truth_found small holds b.terms after body v (checked.right given) lines);
+          by_terms (λ M N' bound. TrueFind M N' holds body) b.terms 1 M N bound checked.terms (truth_found small holds b.terms after body checked.again v (checked.right given) lines);
     })
   where
     holds : ℕ → List ℕ
