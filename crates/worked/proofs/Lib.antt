@@ -1,1 +1,6 @@
+pub mod OneSum
 pub mod Over
+pub mod FourCards
+pub mod Replied
+pub mod AskedAgain
+pub mod ChecksClosed
