@@ -1,12 +1,11 @@
--- In the farm with one bad copy weighing asks a station again: the pairs of station 4 have no solution by sum 1.
-use Rattle.std.proofs.Common.{◌≡◌, ℕ, ◌≤◌, refl, sym, subst, ◌∙◌, inl, inr, true, false, arith}
-use native.Mathlib.Decide.{ℕ_discrete}
+-- In the farm with one bad copy weighing asks station 4 again: the pairs of station 4 have no solution by sum 1.
+use Rattle.std.proofs.Common.{◌≡◌, ℕ, refl, sym, ap, subst, ◌∙◌, ◌⊎◌, inl, inr, true, false, arith}
 use Rattle.prime.specs.Prime.{prime}
 use Rattle.prime.specs.Laws.{prime_laws, prime_spread}
 use Rattle.scheme.specs.Askings.{Outcome, over, split, filled, asks}
 use Rattle.scheme.specs.Differences.{Gaps, gap, Suspect}
 use Rattle.scheme.specs.Farm.{Table, Station}
-use Rattle.scheme.specs.Four.{Known, none_suspect, three_suspect, one_suspect}
+use Rattle.scheme.specs.Four.{asked, Known, none_suspect, three_suspect, one_suspect}
 use Rattle.scheme.specs.Pairs.{among, Pair, Triangle}
 use Rattle.scheme.specs.Theorem.{Finds}
 use Rattle.scheme.specs.Weighing.{Weighs}
@@ -18,6 +17,7 @@ use Rattle.desk.specs.Going.{AsksAgain}
 use Rattle.desk.proofs.CardsHeld.{cards_held}
 use Rattle.worked.specs.Checks.{one_bad}
 use Rattle.worked.proofs.FourCards.{four_not_plain, one_stray, one_bad_decided}
+use Rattle.worked.proofs.EachOne.{each_station}
 use Rattle.worked.proofs.OneSum.{unsolved}
 
 abbrev held : Table
@@ -45,27 +45,27 @@ two_four = inl (unsolved told 2 4 (λ z. omega (arith, gap_two, z)))
 three_four : Suspect prime 4 3 1 told 3 4
 three_four = inl (unsolved told 3 4 (λ z. omega (arith, gap_three, z)))
 
--- the four stations are not among three
-four_among : (x y z m : ℕ) → Triangle 4 (Suspect prime 4 3 1 told) x y z → Station 4 m → among x y z m ≡ true
-four_among x y z m tri at = elim (ℕ_discrete m 1) [
-  | yes e ↦ subst (λ m. among x y z m ≡ true) (sym e) (first 1 4 (omega arith, omega arith, omega arith) one_four).0
-  | no a ↦ elim (ℕ_discrete m 2) [
-    | yes e ↦ subst (λ m. among x y z m ≡ true) (sym e) (first 2 4 (omega arith, omega arith, omega arith) two_four).0
-    | no b ↦ elim (ℕ_discrete m 3) [
-      | yes e ↦ subst (λ m. among x y z m ≡ true) (sym e) (first 3 4 (omega arith, omega arith, omega arith) three_four).0
-      | no c ↦ subst (λ m. among x y z m ≡ true) (let e : 4 ≡ m = omega arith in e) (first 3 4 (omega arith, omega arith, omega arith) three_four).1
-    ]
-  ]
-]
+-- a triangle has three stations, and all four would be among them
+four_among : (x y z : ℕ) → Triangle 4 (Suspect prime 4 3 1 told) x y z → (m : ℕ) → Station 4 m → among x y z m ≡ true
+four_among x y z tri = each_station (λ m. among x y z m ≡ true) (both 1 4 (omega arith, omega arith, omega arith) one_four).0
+    (both 2 4 (omega arith, omega arith, omega arith) two_four).0 (both 3 4 (omega arith, omega arith, omega arith) three_four).0
+    (both 3 4 (omega arith, omega arith, omega arith) three_four).1
   where
-    first : (s t : ℕ) → Pair 4 s t → Suspect prime 4 3 1 told s t → (among x y z s ≡ true) × (among x y z t ≡ true)
-    first s t pair suspect = (tri.4 s t pair).0 suspect
+    both : (s t : ℕ) → Pair 4 s t → Suspect prime 4 3 1 told s t → (among x y z s ≡ true) × (among x y z t ≡ true)
+    both s t pair suspect = (tri.4 s t pair).0 suspect
 
--- some station is in doubt
-some_doubt : (E : Gaps) (i : ℕ) → Known prime 4 3 1 told E i → 1 ≤ i
-some_doubt E i (none_suspect _ empty) = absurd (empty 1 4 (omega arith, omega arith, omega arith) one_four)
-some_doubt E i (three_suspect x y z m _ tri low) = absurd (let no : true ≡ false = sym (four_among x y z m tri low.0) ∙ low.1 in cc)
-some_doubt E i (one_suspect _ _ low) = low.0.0
+-- in the pair of 1 and 4 and in that of 2 and 4
+four_in_both : (i : ℕ) → (i ≡ 1) ⊎ (i ≡ 4) → (i ≡ 2) ⊎ (i ≡ 4) → i ≡ 4
+four_in_both i (inr e) _ = e
+four_in_both i (inl a) (inr e) = e
+four_in_both i (inl a) (inl b) = omega arith
+
+-- station 4 is in doubt
+four_in_doubt : (E : Gaps) (i : ℕ) → Known prime 4 3 1 told E i → i ≡ 4
+four_in_doubt E i (none_suspect _ empty) = absurd (empty 1 4 (omega arith, omega arith, omega arith) one_four)
+four_in_doubt E i (three_suspect x y z m _ tri low) = absurd (let no : true ≡ false = sym (four_among x y z tri m low.0) ∙ low.1 in cc)
+four_in_doubt E i (one_suspect _ _ low) =
+    four_in_both i (low.1 1 4 (omega arith, omega arith, omega arith) one_four) (low.1 2 4 (omega arith, omega arith, omega arith) two_four)
 
 found : Finds prime 4 3 1 held told told (held 1)
 found = right prime prime_laws prime_spread 4 3 1 (omega arith) (omega arith) held told told (held 1)
@@ -80,14 +80,21 @@ found = right prime prime_laws prime_spread 4 3 1 (omega arith) (omega arith) he
       },
     ))
 
-asks_when : (o : Outcome) → Weighs prime 4 3 1 told (held 1) o → (k : ℕ) × Weighs prime 4 3 1 told (held 1) (asks k)
-asks_when over w = absurd (found.never_over (four_not_plain 1 (omega arith), inl w))
-asks_when (split n) w = let s = found.split_true n (inl (four_not_plain 1 (omega arith), inl w)) in absurd (s.1 (one_bad_decided n s.0))
-asks_when (filled R) (inl w) = absurd (let none = some_doubt w.1.0 0 w.1.1 in omega arith)
-asks_when (filled R) (inr w) = absurd (let four : ◌≡◌ {A = ℕ} 4 3 = w.0 in omega arith)
-asks_when (asks k) w = (k, w)
+-- nothing but the asking of station 4 is left
+by_outcome : (o : Outcome) → Weighs prime 4 3 1 told (held 1) o → Weighs prime 4 3 1 told (held 1) (asks 4)
+by_outcome over w = absurd (found.never_over (four_not_plain 1 (omega arith), inl w))
+by_outcome (split n) w = let s = found.split_true n (inl (four_not_plain 1 (omega arith), inl w)) in absurd (s.1 (one_bad_decided n s.0))
+by_outcome (filled R) (inl w) = absurd (let four = four_in_doubt w.1.0 0 w.1.1 in omega arith)
+by_outcome (filled R) (inr w) = absurd (let four : ◌≡◌ {A = ℕ} 4 3 = w.0 in omega arith)
+by_outcome (asks k) (inl w) =
+    let four : k ≡ 4 = w.1.3 ∙ ap asked (four_in_doubt w.1.0 w.1.1 w.1.2.known) in
+    subst (λ k. Weighs prime 4 3 1 told (held 1) (asks k)) four (inl w)
+by_outcome (asks k) (inr w) = absurd (let four : ◌≡◌ {A = ℕ} 4 3 = w.0 in omega arith)
+
+pub asks_four : Weighs prime 4 3 1 (sums prime 3 (cards prime 3 one_bad)) (copies (cards prime 3 one_bad) 1) (asks 4)
+asks_four =
+    let some = (some_outcome prime prime_laws prime_spread 4 3 1 (omega arith) (omega arith) told told (held 1)).0 in
+    by_outcome some.0 some.1
 
 pub one_bad_asks : AsksAgain 4 3 1 prime one_bad
-one_bad_asks =
-    let some = (some_outcome prime prime_laws prime_spread 4 3 1 (omega arith) (omega arith) told told (held 1)).0 in
-    (four_not_plain 1 (omega arith), asks_when some.0 some.1)
+one_bad_asks = (four_not_plain 1 (omega arith), (4, asks_four))

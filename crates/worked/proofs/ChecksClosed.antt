@@ -60,7 +60,7 @@ module _ (before after : List ℕ) (b : Book) where
           let r = by_terms (λ M N bound. Page N n × (¬ Decided M (copies (cards prime 3 two_halves)) n)) b.terms 1 4 3 2 stands right in
           elim (ℕ_discrete n 1) [
             | yes e ↦ ap Split e
-            | no other ↦ absurd (r.1 (two_halves_decided n (omega (arith, r.0, other)) r.0.1))
+            | no other ↦ absurd (r.1 (two_halves_decided n r.0 (omega (arith, r.0, other))))
           ]
       by Over stands right = absurd right
 

@@ -1,7 +1,6 @@
 -- The cards of the two farms that are checked: their stray copies, their majorities, and the page that has none.
-use Rattle.std.proofs.Common.{◌≡◌, ℕ, ◌+◌, ◌≤◌, ◌<◌, refl, sym, subst, inl, inr, Bool, true, false, cond, arith}
+use Rattle.std.proofs.Common.{◌≡◌, ℕ, ◌+◌, ◌≤◌, ◌<◌, refl, inl, inr, Bool, true, false, cond, arith}
 use lib.Dec.{eqb}
-use native.Mathlib.Decide.{ℕ_discrete}
 use Rattle.std.proofs.lemmas.Bool.{eqb-true}
 use Rattle.algebra.specs.Vectors.{Page}
 use Rattle.prime.specs.Prime.{prime}
@@ -11,16 +10,7 @@ use Rattle.calls.specs.Steady.{copies}
 use Rattle.calls.specs.Promise.{Differs}
 use Rattle.desk.specs.Copies.{cards}
 use Rattle.worked.specs.Checks.{one_bad, two_halves}
-
--- what holds of each of three pages holds of all
-pub each_page : (P : ℕ → Type 0) → P 1 → P 2 → P 3 → (n : ℕ) → Page 3 n → P n
-each_page P a b c n page = elim (ℕ_discrete n 1) [
-  | yes e ↦ subst P (sym e) a
-  | no other ↦ elim (ℕ_discrete n 2) [
-    | yes e ↦ subst P (sym e) b
-    | no more ↦ subst P (let e : 3 ≡ n = omega arith in e) c
-  ]
-]
+use Rattle.worked.proofs.EachOne.{each_page}
 
 pub four_not_plain : (bound : ℕ) → bound < 3 → ¬ Plain 4 3 bound
 four_not_plain bound low (inl x) = omega arith
@@ -53,10 +43,8 @@ two_halves_undecided (v, most) =
     let h : holders 4 (copies (cards prime 3 two_halves)) 1 v ≡ 0 + cond (eqb 5 v) 1 0 + cond (eqb 5 v) 1 0 + cond (eqb 6 v) 1 0 + cond (eqb 6 v) 1 0 = refl in
     omega (arith, h, most, two_and_two v (eqb 5 v) (eqb 6 v) refl refl)
 
-pub two_halves_decided : (n : ℕ) → 2 ≤ n → n ≤ 3 → Decided 4 (copies (cards prime 3 two_halves)) n
-two_halves_decided n from to = elim (ℕ_discrete n 2) [
-  | yes e ↦ subst (Decided 4 (copies (cards prime 3 two_halves))) (sym e) (0, let h : holders 4 (copies (cards prime 3 two_halves)) 2 0 ≡ 4 = refl in omega arith)
-  | no more ↦
-      subst (Decided 4 (copies (cards prime 3 two_halves))) (let e : 3 ≡ n = omega arith in e)
-      (0, let h : holders 4 (copies (cards prime 3 two_halves)) 3 0 ≡ 4 = refl in omega arith)
-]
+pub two_halves_decided : (n : ℕ) → Page 3 n → 2 ≤ n → Decided 4 (copies (cards prime 3 two_halves)) n
+two_halves_decided = each_page (λ n. 2 ≤ n → Decided 4 (copies (cards prime 3 two_halves)) n)
+    (λ more. absurd (let z : ⊥ = omega arith in z))
+    (λ more. (0, (let h : holders 4 (copies (cards prime 3 two_halves)) 2 0 ≡ 4 = refl in omega arith)))
+    (λ more. (0, (let h : holders 4 (copies (cards prime 3 two_halves)) 3 0 ≡ 4 = refl in omega arith)))

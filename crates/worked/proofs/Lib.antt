@@ -1,3 +1,4 @@
+pub mod EachOne
 pub mod OneSum
 pub mod Over
 pub mod FourCards

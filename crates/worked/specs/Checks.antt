@@ -7,14 +7,15 @@ use Rattle.link.specs.declared.request.Request.{Request}
 use Rattle.link.specs.Requests.{Holds}
 use Rattle.link.specs.Reading.{reply_words}
 use Rattle.station.specs.Serving.{answers}
-use Rattle.scheme.specs.Askings.{Plain}
+use Rattle.scheme.specs.Askings.{Plain, asks}
 use Rattle.scheme.specs.Farm.{strays}
+use Rattle.scheme.specs.Weighing.{Weighs}
 use Rattle.calls.specs.declared.book.Book.{Book}
 use Rattle.calls.specs.declared.phases.Verdict.{Verdict}
 use Rattle.calls.specs.declared.phases.Verdict.TheVariants.{Report, Split}
 use Rattle.calls.specs.Opening.{Stands}
 use Rattle.calls.specs.Runs.{closed, Call, Run}
-use Rattle.calls.specs.Steady.{FarmHolds, copies, Steady}
+use Rattle.calls.specs.Steady.{FarmHolds, copies, sums, Steady}
 use Rattle.calls.specs.Promise.{Differs}
 use Rattle.desk.specs.Copies.{cards}
 
@@ -43,9 +44,11 @@ pub record Closes (f : Ops) (M N bound : ℕ) (holds : ℕ → List ℕ) (v : Ve
 
 pub record WorkedChecks : Type 0 where
   pub report : Closes prime 4 3 1 (cards prime 3 one_bad) Report
-  -- sum 1 of three stations, and sum 2 of the one that is asked again
+  -- by their first sums station 4 is asked again
+  pub again : Weighs prime 4 3 1 (sums prime 3 (cards prime 3 one_bad)) (copies (cards prime 3 one_bad) 1) (asks 4)
+  -- so the run takes sum 1 of three stations, and sum 2 of one
   pub taken : report.book.counts.taken ≡ 4
-  -- what station 4 answers when it is asked for sum 2, which is 4239: a steady run's accepted reply to that request
+  -- what station 4 answers when it is asked for sum 2, which is 4239: in a steady run the accepted reply has these words
   pub reply : (q : Request) → Holds q 1 4 Sums 2 2
       → reply_words q (answers prime (cards prime 3 one_bad 4) q) ≡ 0x1000_0001 ∷ 0x2000_0004 ∷ 0x3000_0002 ∷ 0x5000_0002 ∷ 0x6000_108F ∷ []
   pub bad : Differs 4 (copies (cards prime 3 one_bad)) 4 2

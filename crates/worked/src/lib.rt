@@ -1,4 +1,4 @@
-// Small examples that anybody can work out by hand, as theorems about the definitions.
+// Small examples that anybody can work out by hand, as theorems: what the definitions give, and what two checks come to.
 #![tactic(auto)]
 
 ghost use Rattle.worked.specs.Examples.{WorkedExamples};
