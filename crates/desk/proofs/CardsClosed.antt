@@ -51,7 +51,7 @@ module _ (f : Ops) (laws : Laws f) (spread : Spread f) (promise : EveryRun) (M N
       )
 
 -- a check closes by an outcome that asks nobody
-closing_outcome : (f : Ops) (holds : ℕ → List ℕ) (t : Terms) (tally : List ℕ) (v : Verdict) → ClosedBy f holds t tally (TrulyWeighs f holds t) v
+pub closing_outcome : (f : Ops) (holds : ℕ → List ℕ) (t : Terms) (tally : List ℕ) (v : Verdict) → ClosedBy f holds t tally (TrulyWeighs f holds t) v
     → (o : Outcome) × TrulyWeighs f holds t o × ((k : ℕ) → o ≢ asks k)
 closing_outcome f holds t tally Over x = (over, x, λ k e. cc)
 closing_outcome f holds t tally (Split n) (inl x) = (split n, x, λ k e. cc)

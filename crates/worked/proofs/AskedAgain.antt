@@ -1,8 +1,8 @@
 -- In the farm with one bad copy weighing asks station 4 again: the pairs of station 4 have no solution by sum 1.
-use Rattle.std.proofs.Common.{◌≡◌, ℕ, refl, sym, ap, subst, ◌∙◌, ◌⊎◌, inl, inr, true, false, arith}
+use Rattle.std.proofs.Common.{◌≡◌, ℕ, refl, sym, ap, subst, ◌∙◌, ◌⊎◌, List, Option, Some, None, inl, inr, true, false, arith}
 use Rattle.prime.specs.Prime.{prime}
 use Rattle.prime.specs.Laws.{prime_laws, prime_spread}
-use Rattle.scheme.specs.Askings.{Outcome, over, split, filled, asks}
+use Rattle.scheme.specs.Askings.{Plain, Outcome, over, split, filled, asks}
 use Rattle.scheme.specs.Differences.{Gaps, gap, Suspect}
 use Rattle.scheme.specs.Farm.{Table, Station}
 use Rattle.scheme.specs.Four.{asked, Known, none_suspect, three_suspect, one_suspect}
@@ -10,7 +10,16 @@ use Rattle.scheme.specs.Pairs.{among, Pair, Triangle}
 use Rattle.scheme.specs.Theorem.{Finds}
 use Rattle.scheme.specs.Weighing.{Weighs}
 use Rattle.scheme.proofs.AtLeastOne.{some_outcome}
+use Rattle.scheme.proofs.AtMostOne.{one_outcome}
 use Rattle.scheme.proofs.Truth.{right}
+use Rattle.calls.specs.declared.terms.Terms.{Terms}
+use Rattle.calls.specs.declared.phases.Verdict.{Verdict}
+use Rattle.calls.specs.Opening.{Stands}
+use Rattle.calls.specs.Promise.{Judged}
+use Rattle.calls.specs.Runs.{closed}
+use Rattle.calls.proofs.TrueEnds.{alike_asks}
+use Rattle.desk.proofs.Asked.{by_terms}
+use Rattle.desk.proofs.CardsClosed.{closing_outcome}
 use Rattle.calls.specs.Steady.{copies, sums}
 use Rattle.desk.specs.Copies.{cards}
 use Rattle.desk.specs.Going.{AsksAgain}
@@ -91,10 +100,28 @@ by_outcome (asks k) (inl w) =
     subst (λ k. Weighs prime 4 3 1 told (held 1) (asks k)) four (inl w)
 by_outcome (asks k) (inr w) = absurd (let four : ◌≡◌ {A = ℕ} 4 3 = w.0 in omega arith)
 
-pub asks_four : Weighs prime 4 3 1 (sums prime 3 (cards prime 3 one_bad)) (copies (cards prime 3 one_bad) 1) (asks 4)
+asks_four : Weighs prime 4 3 1 (sums prime 3 (cards prime 3 one_bad)) (copies (cards prime 3 one_bad) 1) (asks 4)
 asks_four =
     let some = (some_outcome prime prime_laws prime_spread 4 3 1 (omega arith) (omega arith) told told (held 1)).0 in
     by_outcome some.0 some.1
 
 pub one_bad_asks : AsksAgain 4 3 1 prime one_bad
 one_bad_asks = (four_not_plain 1 (omega arith), (4, asks_four))
+
+-- so it comes to nothing else
+alone : (o : Outcome) → Weighs prime 4 3 1 told (held 1) o → o ≡ asks 4
+alone o w = alike_asks o ((one_outcome prime prime_laws prime_spread 4 3 1 (omega arith) told told (held 1) o (asks 4)).0 w asks_four)
+
+-- a check of these cards closes after a second asking, of station 4
+pub asked_four : (t : Terms) → Stands t 1 4 3 1 → (tally : List ℕ) (again : Option ℕ) (v : Verdict)
+    → Judged prime (cards prime 3 one_bad) t tally (closed again v) → again ≡ Some 4
+asked_four t stands tally (Some k) v judged =
+    let same = alone (asks k) (by_terms (λ M N bound. Weighs prime M N bound (sums prime N (cards prime 3 one_bad)) (held 1) (asks k)) t 1 4 3 1 stands judged.0.1) in
+    cc
+asked_four t stands tally None v judged =
+    let o = closing_outcome prime (cards prime 3 one_bad) t tally v judged in
+    elim o.1 [
+      | inl hand ↦ absurd (four_not_plain 1 (omega arith) (by_terms Plain t 1 4 3 1 stands hand.2))
+      | inr x ↦
+          absurd (o.2 4 (alone o.0 (by_terms (λ M N bound. Weighs prime M N bound (sums prime N (cards prime 3 one_bad)) (held 1) o.0) t 1 4 3 1 stands x.1)))
+    ]

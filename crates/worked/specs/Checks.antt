@@ -1,5 +1,5 @@
 -- Checks worked through their calls: steady runs that end in a report and in a split.
-use Rattle.std.specs.Prelude.{◌≡◌, ℕ, ◌≤◌, List, [], ◌∷◌}
+use Rattle.std.specs.Prelude.{◌≡◌, ℕ, ◌≤◌, List, [], ◌∷◌, Some, Option}
 use Rattle.field.specs.Field.{Ops}
 use Rattle.prime.specs.Prime.{prime}
 use Rattle.link.specs.declared.asked.Asked.TheVariants.{Sums}
@@ -7,15 +7,14 @@ use Rattle.link.specs.declared.request.Request.{Request}
 use Rattle.link.specs.Requests.{Holds}
 use Rattle.link.specs.Reading.{reply_words}
 use Rattle.station.specs.Serving.{answers}
-use Rattle.scheme.specs.Askings.{Plain, asks}
+use Rattle.scheme.specs.Askings.{Plain}
 use Rattle.scheme.specs.Farm.{strays}
-use Rattle.scheme.specs.Weighing.{Weighs}
 use Rattle.calls.specs.declared.book.Book.{Book}
 use Rattle.calls.specs.declared.phases.Verdict.{Verdict}
 use Rattle.calls.specs.declared.phases.Verdict.TheVariants.{Report, Split}
 use Rattle.calls.specs.Opening.{Stands}
 use Rattle.calls.specs.Runs.{closed, Call, Run}
-use Rattle.calls.specs.Steady.{FarmHolds, copies, sums, Steady}
+use Rattle.calls.specs.Steady.{FarmHolds, copies, Steady}
 use Rattle.calls.specs.Promise.{Differs}
 use Rattle.desk.specs.Copies.{cards}
 
@@ -28,7 +27,7 @@ abbrev pub two_halves : List ℕ
 two_halves = 5 ∷ 0 ∷ 0 ∷ 5 ∷ 0 ∷ 0 ∷ 6 ∷ 0 ∷ 0 ∷ 6 ∷ 0 ∷ 0 ∷ []
 
 -- The stations hold these rows, with no more stray copies than the bound and too many pages for a plain check; and a steady run of calls on a check
--- of them, from its opening, closed with this verdict.
+-- of them, from its opening, closed with this verdict, after a second asking or without one.
 pub record Closes (f : Ops) (M N bound : ℕ) (holds : ℕ → List ℕ) (v : Verdict) : Type 0 where
   pub farm : FarmHolds f M N holds
   pub few : strays M (copies holds) N ≤ bound
@@ -39,14 +38,15 @@ pub record Closes (f : Ops) (M N bound : ℕ) (holds : ℕ → List ℕ) (v : Ve
   pub calls : List Call
   pub book : Book
   pub terms : Stands book.terms 1 M N bound
-  pub run : Run f (holds 1) opened calls book (closed v)
+  pub again : Option ℕ
+  pub run : Run f (holds 1) opened calls book (closed again v)
   pub steady : Steady f holds (holds 1) opened calls last
 
 pub record WorkedChecks : Type 0 where
   pub report : Closes prime 4 3 1 (cards prime 3 one_bad) Report
-  -- by their first sums station 4 is asked again
-  pub again : Weighs prime 4 3 1 (sums prime 3 (cards prime 3 one_bad)) (copies (cards prime 3 one_bad) 1) (asks 4)
-  -- so the run takes sum 1 of three stations, and sum 2 of one
+  -- its second asking is of station 4
+  pub asked : report.again ≡ Some 4
+  -- it takes sum 1 of three stations, and sum 2 of one
   pub taken : report.book.counts.taken ≡ 4
   -- what station 4 answers when it is asked for sum 2, which is 4239: in a steady run the accepted reply has these words
   pub reply : (q : Request) → Holds q 1 4 Sums 2 2

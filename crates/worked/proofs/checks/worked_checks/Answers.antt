@@ -4,7 +4,7 @@ use Rattle.desk.specs.Going.{Checked}
 use Rattle.prime.specs.Prime.{prime}
 use Rattle.worked.specs.Checks.{one_bad, two_halves}
 use Rattle.worked.proofs.FourCards.{one_stray, two_stray, one_bad_differs}
-use Rattle.worked.proofs.AskedAgain.{asks_four}
+use Rattle.worked.proofs.AskedAgain.{asked_four}
 use Rattle.worked.proofs.Replied.{replied}
 use Rattle.worked.proofs.ChecksClosed.{closes, one_bad_reports, one_bad_taken, two_halves_splits}
 use Rattle.worked.proofs.checks.worked_checks.Goals as goal
@@ -19,7 +19,7 @@ returns c =
     let splits = subst (λ v. Checked 4 3 2 prime two_halves two.0 d v two.1) (two_halves_splits two.0 two.1 d _ two.2) two.2 in
     record {
       report = closes 1 (omega arith) one_bad refl one_stray one.0 one.1 b Report reports;
-      again = asks_four;
+      asked = asked_four b.terms reports.terms one.1 reports.again Report reports.judged;
       taken = one_bad_taken _ reports.taken;
       reply = replied;
       bad = one_bad_differs;
