@@ -17,7 +17,7 @@ pub enum Verdict {
     Report,
     // On this page no signature is held by more than half.
     Split(usize),
-    // There are more stray copies than the bound.
+    // In a steady farm: there are more stray copies than the bound.
     Over,
 }
 
