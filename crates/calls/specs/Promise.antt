@@ -1,5 +1,5 @@
 -- The promise: what holds at every moment of every run of calls on a check.
-use Rattle.std.specs.Prelude.{◌≡◌, ℕ, ◌+◌, ◌-◌, ◌*◌, ◌≤◌, min, cond, ◌≢◌, ◌⊎◌, List, [], ◌∷◌, length, Some, None, Ok, Err, ◌==◌}
+use Rattle.std.specs.Prelude.{◌≡◌, ℕ, ◌+◌, ◌-◌, ◌*◌, ◌≤◌, min, cond, ◌≢◌, ◌⊎◌, List, [], ◌∷◌, length, Some, None, Ok, ◌==◌}
 use Rattle.field.specs.Field.{Ops, Laws, Spread}
 use Rattle.algebra.specs.Vectors.{Page}
 use Rattle.scheme.specs.Farm.{Table, Same, Majority, Decided, strays}
@@ -16,7 +16,7 @@ use Rattle.calls.specs.declared.phases.Verdict.{Verdict}
 use Rattle.calls.specs.declared.phases.Verdict.TheVariants.{Report, Split, Over}
 use Rattle.calls.specs.Questions.{PlainTerms}
 use Rattle.calls.specs.Listing.{Listing}
-use Rattle.calls.specs.Runs.{Stage, first, second, closed, Call, slip, take, return, weigh, settle, list, Run}
+use Rattle.calls.specs.Runs.{Stage, first, second, closed, Call, slip, take, return, Run}
 use Rattle.calls.specs.Steady.{FarmHolds, copies, sums, Steady}
 
 -- ── counts
@@ -24,44 +24,22 @@ use Rattle.calls.specs.Steady.{FarmHolds, copies, sums, Steady}
 -- what a call adds to the slips handed out
 abbrev pub handed_by : Call → ℕ
 handed_by (slip s q (Ok p) q') = 1
-handed_by (slip s q (Err e) q') = 0
-handed_by (take p w t r t') = 0
-handed_by (return p r) = 0
-handed_by (weigh t t') = 0
-handed_by (settle t t') = 0
-handed_by (list s t o r o') = 0
+handed_by _ = 0
 
 -- to the returns that said "answered"
 abbrev pub answered_by : Call → ℕ
-answered_by (slip s q r q') = 0
-answered_by (take p w t r t') = 0
 answered_by (return p (Ok Answered)) = 1
-answered_by (return p (Ok Blank)) = 0
-answered_by (return p (Err e)) = 0
-answered_by (weigh t t') = 0
-answered_by (settle t t') = 0
-answered_by (list s t o r o') = 0
+answered_by _ = 0
 
 -- to those that said "blank"
 abbrev pub blank_by : Call → ℕ
-blank_by (slip s q r q') = 0
-blank_by (take p w t r t') = 0
-blank_by (return p (Ok Answered)) = 0
 blank_by (return p (Ok Blank)) = 1
-blank_by (return p (Err e)) = 0
-blank_by (weigh t t') = 0
-blank_by (settle t t') = 0
-blank_by (list s t o r o') = 0
+blank_by _ = 0
 
 -- to the sums and signatures taken: the value words of an accepted reply are those after its four header words
 abbrev pub taken_by : Call → ℕ
-taken_by (slip s q r q') = 0
 taken_by (take p w t (Ok u) t') = length w - 4
-taken_by (take p w t (Err e) t') = 0
-taken_by (return p r) = 0
-taken_by (weigh t t') = 0
-taken_by (settle t t') = 0
-taken_by (list s t o r o') = 0
+taken_by _ = 0
 
 -- over all calls
 abbrev pub all_calls : (Call → ℕ) → List Call → ℕ
