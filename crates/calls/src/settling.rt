@@ -55,14 +55,12 @@ impl Terms {
         requires room { tally_size self.now.stations self.now.pages ≤ length tally.old }
         ensures { Judging.Settled F.Field.ops self.now.stations self.now.pages self.now.bound tally.old tally.new result }
     {
-        match verdict::settle::<F>(
+        verdict::settle::<F>(
             self.stations as usize,
             self.pages as usize,
             self.bound as usize,
             tally,
-        ) {
-            Ok(outcome) => outcome,
-            Err(_) => unreachable(),
-        }
+        )
+        .unwrap()
     }
 }
