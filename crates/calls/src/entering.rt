@@ -42,7 +42,7 @@ fn fill_signatures<F: Field, S: Station<F>>(own: &S, pages: usize, tally: &mut [
     ensures { Placed (signature_place pages 1) (entry (S.Station.row own.now)) 1 (pages + 1) tally.old tally.new }
 {
     for page in 1..=pages {
-        let signature = own_signature::<F, S>(own, page);
+        let signature = own.signature(page).unwrap();
         put_signature(tally, pages, 1, page, signature);
     }
 }
@@ -54,30 +54,8 @@ fn fill_sums<F: Field, S: Station<F>>(own: &S, pages: usize, sums: usize, tally:
     ensures { Placed (sum_place pages 1) (power_sum F.Field.ops pages (entry (S.Station.row own.now))) 1 (sums + 1) tally.old tally.new }
 {
     for j in 1..=sums {
-        let sum = own_sum::<F, S>(own, j);
+        let sum = own.sum(j).unwrap();
         put_sum(tally, pages, 1, j, sum);
-    }
-}
-
-// The signature of a page that the own copy has.
-fn own_signature<F: Field, S: Station<F>>(own: &S, page: usize) -> u32
-    requires { Page (length (S.Station.row own.now)) page }
-    ensures { result ≡ entry (S.Station.row own.now) page }
-{
-    match own.signature(page) {
-        Ok(signature) => signature,
-        Err(_) => unreachable(),
-    }
-}
-
-// A sum that every station tells.
-fn own_sum<F: Field, S: Station<F>>(own: &S, j: usize) -> u32
-    requires { Page 128 j }
-    ensures { result ≡ power_sum F.Field.ops (length (S.Station.row own.now)) (entry (S.Station.row own.now)) j }
-{
-    match own.sum(j) {
-        Ok(sum) => sum,
-        Err(_) => unreachable(),
     }
 }
 

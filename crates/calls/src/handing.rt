@@ -71,15 +71,13 @@ impl Book {
         ensures { Asks self.now station result }
     {
         let question = self.question;
-        match Request::new(
+        Request::new(
             self.terms.number,
             station,
             question.asked,
             question.first,
             question.last,
-        ) {
-            Some(request) => request,
-            None => unreachable(),
-        }
+        )
+        .unwrap()
     }
 }

@@ -1,5 +1,6 @@
 -- A list of pages is no longer than there are pages, so that a listing of them is refused nowhere.
-use Rattle.std.proofs.Common.{◌≡◌, ℕ, zero, suc, ◌-◌, ◌≤◌, ◌<◌, List, length, get_or, Some, refl, inl, inr, arith}
+use Rattle.std.proofs.Common.{◌≡◌, ℕ, zero, suc, ◌-◌, ◌≤◌, ◌<◌, List, length, get_or, Some, Result, Ok, Err, refl, inl, inr, arith}
+use Rattle.std.specs.Result.{IsOk}
 use native.Mathlib.Decide.{dec_le}
 use Rattle.refusal.specs.declared.Refusal.{Refusal}
 use Rattle.refusal.specs.Rules.{Within, Refused}
@@ -7,7 +8,7 @@ use Rattle.tally.specs.Rows.{tally_size}
 use Rattle.tally.specs.Listing.{Lists}
 use Rattle.calls.specs.declared.terms.Terms.{Terms}
 use Rattle.calls.specs.declared.phases.Verdict.TheVariants.{Report}
-use Rattle.calls.specs.Listing.{listing}
+use Rattle.calls.specs.Listing.{listing, Listing}
 
 module _ (N : ℕ) (Q : ℕ → Type 0) (xs : List ℕ) (l : Lists N Q xs) where
   -- a page is no less than its position
@@ -24,7 +25,7 @@ module _ (N : ℕ) (Q : ℕ → Type 0) (xs : List ℕ) (l : Lists N Q xs) where
         omega (arith, page_least i h, (l.each i h).0)
   ]
 
-pub report_listed : (t : Terms) (s : ℕ) (tally : List ℕ) (room : ℕ) → tally_size t.stations t.pages ≤ length tally → Within 1 t.stations s → t.pages ≤ room
+report_listed : (t : Terms) (s : ℕ) (tally : List ℕ) (room : ℕ) → tally_size t.stations t.pages ≤ length tally → Within 1 t.stations s → t.pages ≤ room
     → (e : Refusal) → Refused (listing t (Some Report) s tally room) e → ⊥
 report_listed t s tally room fits station many e (inl x) = x.0 fits
 report_listed t s tally room fits station many e (inr (_, inl x)) = x.0 (let same : ◌≡◌ {A = _} (Some Report) (Some Report) = refl in same)
@@ -32,3 +33,8 @@ report_listed t s tally room fits station many e (inr (_, inr (_, inl x))) = x.0
 report_listed t s tally room fits station many e (inr (_, inr (_, inr (_, inl x)))) =
     omega (arith, many, x.0.2, lists_short t.pages _ x.0.0 x.0.1)
 report_listed t s tally room fits station many e (inr (_, inr (_, inr (_, inr x)))) = x.1
+
+pub list_ok : (t : Terms) (s : ℕ) (tally before after : List ℕ) (r : Result ℕ Refusal) → tally_size t.stations t.pages ≤ length tally → Within 1 t.stations s
+    → t.pages ≤ length before → Listing t (Some Report) s tally before r after → IsOk r
+list_ok t s tally before after (Ok count) fits station many x = refl
+list_ok t s tally before after (Err e) fits station many x = absurd (report_listed t s tally (length before) fits station many e x.0)

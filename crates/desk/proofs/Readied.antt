@@ -1,6 +1,7 @@
 -- A ready exchange is refused nowhere, and its slip comes back answered.
-use Rattle.std.proofs.Common.{◌≡◌, ℕ, ◌+◌, ◌≤◌, ◌<◌, ◌++◌, List, length, take, Option, Ok, inl, inr, sym, refl, ap, ◌∙◌, subst, arith}
+use Rattle.std.proofs.Common.{◌≡◌, ℕ, ◌+◌, ◌≤◌, ◌<◌, ◌++◌, List, length, take, Option, Result, Ok, Err, inl, inr, sym, refl, ap, ◌∙◌, subst, arith}
 use Rattle.std.proofs.Math.ListN.{drop_of_length-le}
+use Rattle.std.specs.Result.{IsOk}
 use Rattle.field.specs.Field.{Ops, Laws}
 use Rattle.field.specs.Sums.{entry}
 use Rattle.refusal.specs.declared.Refusal.{Refusal}
@@ -15,7 +16,7 @@ use Rattle.calls.specs.declared.slip.Slip.{Slip}
 use Rattle.calls.specs.declared.slip.Returned.{Returned}
 use Rattle.calls.specs.declared.slip.Returned.TheVariants.{Answered}
 use Rattle.calls.specs.declared.standing.Standing.TheVariants.{Out, Heard}
-use Rattle.calls.specs.Slips.{slipping, taking, returning, TakesIn, Asks, HandsOut, standing, returned_as}
+use Rattle.calls.specs.Slips.{Takes, slipping, taking, returning, TakesIn, Asks, HandsOut, standing, returned_as}
 use Rattle.desk.specs.Exchange.{Ready}
 use Rattle.desk.proofs.Answered.{served_answers}
 use Rattle.calls.proofs.StandingsSet.{standing_same, not_free}
@@ -76,6 +77,11 @@ module _ {row : List ℕ} {only : Option ℕ} {s : ℕ} {b : Book} {room : ℕ} 
             | inl garbled ↦ clear.0 (place e) garbled.1.0 garbled.1.1
             | inr x ↦ elim x.1 [ inl foreign ↦ clear.1.0 (place e) foreign.1.0 foreign.1.1 | inr y ↦ y.1 ]
           ]
+
+      pub takes_ok : (b2 : Book) (before after : List ℕ) (r : Result (Unit {0}) Refusal) → length before ≡ room
+          → Takes f b1 slip.request words before r b2 after → IsOk r
+      takes_ok b2 before after (Ok u) long x = refl
+      takes_ok b2 before after (Err e) long x = absurd (takes_ready e (subst (λ n. Refused (taking f b1 slip.request words n) e) long x.0))
 
       module _ {b2 : Book} {before after : List ℕ} (took : TakesIn f b1 slip.request words before b2 after) where
         stands_heard : standing b2 slip.request.station ≡ Heard

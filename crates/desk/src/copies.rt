@@ -26,8 +26,5 @@ pub(crate) fn card_of<'a, F: Field>(farm: &Farm<F>, words: &'a [u32], station: u
     ensures { result.words.now ≡ words_of farm.now.pages words.now station }
 {
     let start = (station - 1) * farm.pages;
-    match Card::new(&words[start..start + farm.pages]) {
-        Ok(card) => card,
-        Err(_) => unreachable(),
-    }
+    Card::new(&words[start..start + farm.pages]).unwrap()
 }

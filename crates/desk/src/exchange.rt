@@ -23,20 +23,8 @@ pub(crate) fn ask<F: Field, P: Asking>(
 {
     let mut request = [0; 4];
     let mut reply = [0; REPLY_ROOM];
-    let slip = match check.slip(station, &mut request) {
-        Ok(slip) => slip,
-        Err(_) => unreachable(),
-    };
-    let count = match serve(card, station, &request, &mut reply) {
-        Ok(count) => count,
-        Err(_) => unreachable(),
-    };
-    match check.take(&slip, &reply[..count], tally) {
-        Ok(()) => {}
-        Err(_) => unreachable(),
-    }
-    match check.return_slip(slip) {
-        Ok(_) => {}
-        Err(_) => unreachable(),
-    }
+    let slip = check.slip(station, &mut request).unwrap();
+    let count = serve(card, station, &request, &mut reply).unwrap();
+    check.take(&slip, &reply[..count], tally).unwrap();
+    check.return_slip(slip).unwrap();
 }

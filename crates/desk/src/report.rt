@@ -46,10 +46,7 @@ fn report_bytes(
     let mut out = Vec::new(heap);
     let mut pages = [0; PAGE_ROOM];
     for station in 1..=stations {
-        let count = match check.list(station, tally, &mut pages) {
-            Ok(count) => count,
-            Err(_) => unreachable(),
-        };
+        let count = check.list(station, tally, &mut pages).unwrap();
         let lines = page_lines(heap, station, &pages[..count])?;
         out.extend_from_slice(lines.as_slice())?;
     }

@@ -51,10 +51,7 @@ fn farm_bytes(heap: Global, farm: &Farm<Small>, signatures: &[u8]) -> Result<Vec
         .map(|signature| u32::from(*signature))
         .collect(heap)?;
     let mut tally = vec![in heap; 0u32; farm.stations * (farm.pages + SUM_COUNT)]?;
-    let check = match check_cards(farm, words.as_slice(), tally.as_mut_slice()) {
-        Ok(check) => check,
-        Err(_) => unreachable(),
-    };
+    let check = check_cards(farm, words.as_slice(), tally.as_mut_slice()).unwrap();
     let mut out = verdict_bytes(heap, farm.stations as u32, &check, tally.as_slice())?;
     out.extend_from_slice(line::for_sums(heap, check.counts().taken)?.as_bytes())?;
     Ok(out)

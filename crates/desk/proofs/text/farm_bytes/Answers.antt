@@ -13,9 +13,9 @@ returns c =
     let there : c.as_slice-2.result.now ≡ after =
     c.as_slice-2.ensures.value ∙ ap (λ n. take n (after ++ drop (length after) c.in_ok-tally.tally.items)) long
     ∙ take-append_seam after (drop (length after) c.in_ok-tally.tally.items) in
-    farm_text farm.stations farm.pages farm.bound c.args.signatures.now _ (c.as_slice.ensures.value ∙ same) _ c.in-Ok.check.book c.in-Ok.check.phase.verdict after c.in-Ok.ensures.1
+    farm_text farm.stations farm.pages farm.bound c.args.signatures.now _ (c.as_slice.ensures.value ∙ same) _ c.unwrap-check.result.book c.unwrap-check.result.phase.verdict after (rw c.unwrap-check.ensures at c.check_cards.ensures).1
     (vec_items c.in_ok-out.out)
-    (subst (λ tally. VerdictText farm.stations c.in-Ok.check.book.terms.pages tally c.in-Ok.check.phase.verdict (vec_items c.in_ok-out.out)) there c.in_ok-out.ensures)
+    (subst (λ tally. VerdictText farm.stations c.unwrap-check.result.book.terms.pages tally c.unwrap-check.result.phase.verdict (vec_items c.in_ok-out.out)) there c.in_ok-out.ensures)
     (vec_items c.extend_from_slice.new.self)
     (c.in_ok-extend_from_slice.ensures.items ∙ ap (λ xs. vec_items c.in_ok-out.out ++ xs)
     (c.as_bytes.ensures.value ∙ c.in_ok-for_sums.ensures ∙ ap (λ counts. sums_line counts.taken) c.counts.ensures))
