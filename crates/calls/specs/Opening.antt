@@ -1,5 +1,5 @@
 -- Opening a check: what is refused, and what a check knows at its start.
-use Rattle.std.specs.Prelude.{◌≡◌, ℕ, ◌-◌, ◌^◌, ◌≤◌, List, [], ◌∷◌, length, replicate, Ok, Err, Result}
+use Rattle.std.specs.Prelude.{◌≡◌, ℕ, ◌-◌, ◌^◌, ◌≤◌, List, [], ◌∷◌, ◌++◌, length, replicate, Ok, Err, Result}
 use Rattle.field.specs.Field.{Ops, page_limit}
 use Rattle.field.specs.declared.Field.{Ghosts}
 use Rattle.refusal.specs.declared.Refusal.{Refusal}
@@ -23,9 +23,7 @@ terms_in f number M N bound own =
 
 -- the same, then a tally that is too short
 abbrev pub opening : Ops → (number M N bound own room : ℕ) → List Rule
-opening f number M N bound own room =
-    unless (Within 1 (2 ^ 28 - 1) number) 1 1 ∷ unless (Within 3 8 M) 1 2 ∷ unless (Within 1 (page_limit f) N) 1 3 ∷ unless (Within 1 64 bound) 1 4
-    ∷ unless (own ≡ N) 1 5 ∷ unless (tally_size M N ≤ room) 2 1 ∷ []
+opening f number M N bound own room = terms_in f number M N bound own ++ (unless (tally_size M N ≤ room) 2 1 ∷ [])
 
 abbrev pub Stands : Terms → (number M N bound : ℕ) → Type 0
 Stands t number M N bound = (t.number ≡ number) × (t.stations ≡ M) × (t.pages ≡ N) × (t.bound ≡ bound)
