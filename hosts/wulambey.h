@@ -113,15 +113,16 @@ uint32_t wulambey_findings(const uint8_t *input, size_t input_len, uint8_t *text
 
 /* The calls below are parts of the ones above, for programs that keep a tally of their own. */
 
-/* The signature of page `page`, from 1, of a job: 0 for a page that it has not. 4,294,967,295: no field has the number. */
+/* The signature of page `page` of a job, one of 1 to its number of pages. 4,294,967,295: no field has the number. */
 uint32_t wulambey_page_signature(uint32_t field, const uint8_t *job, size_t job_len, size_t page_length, size_t page);
 
 /* Sum j of a row. 4,294,967,295: no field has the number. */
 uint32_t wulambey_row_sum(uint32_t field, const uint32_t *row, size_t row_len, size_t j);
 
-/* Judges a tally of so many rows, each of pages + 128 words, as a check does at weighing, and at settling: 0, the rows are filled, and the
-   signatures of all rows but row 1 are written (nothing in a plain check, where they are at hand); 251, over; 252, split, with the page in
-   *place; 253, a station is to be asked again, with its number in *place. With these three the tally stays as it was.
+/* Judges a tally by its sums and row 1, as a check that is not plain does at weighing, and at settling; also where a check with these numbers
+   would be plain. The tally has a row of pages + 128 words for each station. 0: the rows are filled, and the signatures of all rows but row 1
+   are written; whether each page has a majority is for the caller to see. 251: over; 252: split, with the page in *place; 253: a station is to
+   be asked again, with its number in *place; with these three the tally stays as it was.
    Refused: the number of stations is not 3 to 8 (1, place 2); the number of pages is not 1 to 255 in small, 1 to 1,920 in wide and prime (1,
    place 3); the bound is not 1 to 64 (1, place 4); a tally that is too short for its rows (2, place 1). */
 uint32_t wulambey_weigh(uint32_t field, size_t stations, size_t pages, size_t bound, uint32_t *tally, size_t tally_len, size_t *place);

@@ -78,8 +78,18 @@ pub fn sign(random: &mut Random) -> Compared {
     };
     let before = random.words(room);
     let (mut card, mut count, mut place) = (before.clone(), UNWRITTEN, UNWRITTEN);
-    let status =
-        unsafe { raw::wulambey_sign(number, job.as_ptr(), job.len(), length, card.as_mut_ptr(), room, &mut count, &mut place) };
+    let status = unsafe {
+        raw::wulambey_sign(
+            number,
+            job.as_ptr(),
+            job.len(),
+            length,
+            card.as_mut_ptr(),
+            room,
+            &mut count,
+            &mut place,
+        )
+    };
     let wanted = wanted(known, |field| {
         let card = signatures::sign(field, &job, length)?;
         if card.len() > room {
@@ -89,10 +99,17 @@ pub fn sign(random: &mut Random) -> Compared {
     });
     let mut all = same(&wanted, &before, status, Some(count), place, &card);
     if all.is_ok() && known.is_some() {
-        all = safe(wulambey::sign(safe_field(number), &job, length), &signatures::sign(&field, &job, length));
+        all = safe(
+            wulambey::sign(safe_field(number), &job, length),
+            &signatures::sign(&field, &job, length),
+        );
     }
-    all.map(|()| way("signed", &wanted))
-        .map_err(|why| format!("{why}\nfield {number}, page length {length}, a card of {room} words, job\n{}", hex(&job)))
+    all.map(|()| way("signed", &wanted)).map_err(|why| {
+        format!(
+            "{why}\nfield {number}, page length {length}, a card of {room} words, job\n{}",
+            hex(&job)
+        )
+    })
 }
 
 pub fn sums(random: &mut Random) -> Compared {
@@ -114,7 +131,8 @@ pub fn sums(random: &mut Random) -> Compared {
     if all.is_ok() && known.is_some() {
         all = safe(wulambey::sums(safe_field(number), &row, room), &result);
     }
-    all.map(|()| way("summed", &wanted)).map_err(|why| format!("{why}\nfield {number}, {room} sums, card\n{}", hex_words(&row)))
+    all.map(|()| way("summed", &wanted))
+        .map_err(|why| format!("{why}\nfield {number}, {room} sums, card\n{}", hex_words(&row)))
 }
 
 /// The sums 1 to this count of a vector that has these codes at these pages.
@@ -168,10 +186,24 @@ pub fn solve(random: &mut Random) -> Compared {
         let at = random.below(values.len());
         values[at] = if random.chance(50) { field.q } else { random.word() };
     }
-    let before: Vec<Entry> = (0..LIST_PLACES).map(|_| Entry { page: random.below(3_000), code: random.word() }).collect();
+    let before: Vec<Entry> = (0..LIST_PLACES)
+        .map(|_| Entry {
+            page: random.below(3_000),
+            code: random.word(),
+        })
+        .collect();
     let (mut list, mut count, mut place) = (before.clone(), UNWRITTEN, UNWRITTEN);
     let status = unsafe {
-        raw::wulambey_solve(number, pages, values.as_ptr(), values.len(), weight, list.as_mut_ptr(), &mut count, &mut place)
+        raw::wulambey_solve(
+            number,
+            pages,
+            values.as_ptr(),
+            values.len(),
+            weight,
+            list.as_mut_ptr(),
+            &mut count,
+            &mut place,
+        )
     };
     let result = solving::solve(&field, pages, &values, weight);
     let as_entries = |list: &solving::List| list.iter().map(|&(page, code)| Entry { page, code }).collect::<Vec<Entry>>();
@@ -179,7 +211,9 @@ pub fn solve(random: &mut Random) -> Compared {
     if let Ok(found) = &result {
         for (method, other) in solving::by_each(&field, pages, &values, weight) {
             if other != *found {
-                own = Err(format!("the second implementation differs from itself: {method} finds {other:?}, and not {found:?}"));
+                own = Err(format!(
+                    "the second implementation differs from itself: {method} finds {other:?}, and not {found:?}"
+                ));
             }
         }
     }
@@ -201,7 +235,10 @@ pub fn solve(random: &mut Random) -> Compared {
         all = Err(format!("the count: the library's is {count}, the other's {pages_found}"));
     }
     if all.is_ok() && known.is_some() {
-        all = safe(wulambey::solve(safe_field(number), pages, &values, weight), &result.map(|found| found.map(|list| as_entries(&list))));
+        all = safe(
+            wulambey::solve(safe_field(number), pages, &values, weight),
+            &result.map(|found| found.map(|list| as_entries(&list))),
+        );
     }
     let full = if values.len() == pages { ", as many values as pages" } else { "" };
     let name = match pages_found {
@@ -209,8 +246,12 @@ pub fn solve(random: &mut Random) -> Compared {
         1..=4 => format!("solved, of weight 1 to 4{full}"),
         _ => format!("solved, of weight 5 and more{full}"),
     };
-    all.map(|()| way(&name, &wanted))
-        .map_err(|why| format!("{why}\nfield {number}, {pages} pages, weight {weight}, values\n{}", hex_words(&values)))
+    all.map(|()| way(&name, &wanted)).map_err(|why| {
+        format!(
+            "{why}\nfield {number}, {pages} pages, weight {weight}, values\n{}",
+            hex_words(&values)
+        )
+    })
 }
 
 /// A request to this station of so many pages, mostly a right one, and room for its reply.
@@ -309,7 +350,10 @@ pub fn serve_card(random: &mut Random) -> Compared {
     }
     all.map(|()| way(kind_of(&request), &wanted)).map_err(|why| {
         let request = hex_words(&request);
-        format!("{why}\nfield {number}, station {station}, a reply of {room} words, request\n{request}\ncard\n{}", hex_words(&card))
+        format!(
+            "{why}\nfield {number}, station {station}, a reply of {room} words, request\n{request}\ncard\n{}",
+            hex_words(&card)
+        )
     })
 }
 
@@ -345,6 +389,9 @@ pub fn serve_job(random: &mut Random) -> Compared {
     }
     all.map(|()| way(kind_of(&request), &wanted)).map_err(|why| {
         let request = hex_words(&request);
-        format!("{why}\nfield {number}, page length {length}, station {station}, a reply of {room} words, request\n{request}\njob\n{}", hex(&job))
+        format!(
+            "{why}\nfield {number}, page length {length}, station {station}, a reply of {room} words, request\n{request}\njob\n{}",
+            hex(&job)
+        )
     })
 }

@@ -12,7 +12,11 @@ use crate::{field_number, hex, hex_words, safe, same, Compared, Wanted, UNWRITTE
 fn some_scheme(random: &mut Random, field: &Field) -> Scheme {
     let stations = if random.chance(25) { 3 } else { random.from(4, 8) };
     let pages = random.size(field.places);
-    let bound = if random.chance(70) { random.size(64.min(pages.saturating_sub(1).max(1))) } else { random.size(64) };
+    let bound = if random.chance(70) {
+        random.size(64.min(pages.saturating_sub(1).max(1)))
+    } else {
+        random.size(64)
+    };
     Scheme { stations, pages, bound }
 }
 
@@ -43,7 +47,11 @@ fn silent(random: &mut Random, field: &Field, pages: usize, count: usize) -> Vec
 
 /// The rows of a farm, with strays of some kind.
 fn some_rows(random: &mut Random, field: &Field, scheme: &Scheme) -> Vec<Vec<u32>> {
-    let Scheme { stations: m, pages: n, bound: f } = *scheme;
+    let Scheme {
+        stations: m,
+        pages: n,
+        bound: f,
+    } = *scheme;
     let codes = if random.chance(15) { random.from(2, 3) } else { field.q as usize };
     let row: Vec<u32> = match random.below(10) {
         0 => vec![0; n],
@@ -96,7 +104,7 @@ fn some_rows(random: &mut Random, field: &Field, scheme: &Scheme) -> Vec<Vec<u32
         }
         // the same strays at some stations, and a few others
         68..=83 => {
-            let places = random.different(random_share(f, n), n);
+            let places = random.different(f.div_ceil(2).min(n), n);
             let like = random.different(m / 2 + 1, m);
             let group = &like[..1 + one % like.len()];
             for page in places {
@@ -112,6 +120,21 @@ fn some_rows(random: &mut Random, field: &Field, scheme: &Scheme) -> Vec<Vec<u32
             for _ in 0..count {
                 let (s, page) = (random.one(&left), random.below(n));
                 rows[s][page] = other(random, rows[s][page], codes);
+            }
+        }
+        // a vector that the first sums do not show, in three parts, some of which each station has
+        84..=89 => {
+            let parts: Vec<(usize, (usize, u32))> = silent(random, field, n, scheme.first_sums())
+                .into_iter()
+                .map(|term| (random.below(3), term))
+                .collect();
+            for row in &mut rows {
+                let has = random.below(8);
+                for &(part, (page, code)) in &parts {
+                    if has >> part & 1 == 1 {
+                        row[page - 1] = field.sum(row[page - 1], code);
+                    }
+                }
             }
         }
         // two stations that differ by a vector which the first sums do not show, or most of it
@@ -136,10 +159,6 @@ fn some_rows(random: &mut Random, field: &Field, scheme: &Scheme) -> Vec<Vec<u32
         }
     }
     rows
-}
-
-fn random_share(bound: usize, pages: usize) -> usize {
-    bound.div_ceil(2).min(pages)
 }
 
 pub fn findings(random: &mut Random) -> Compared {
@@ -176,10 +195,13 @@ pub fn findings(random: &mut Random) -> Compared {
     };
     let before: Vec<u8> = (0..room).map(|_| random.bits() as u8).collect();
     let (mut text, mut count, mut place) = (before.clone(), UNWRITTEN, UNWRITTEN);
-    let status =
-        unsafe { raw::wulambey_findings(input.as_ptr(), input.len(), text.as_mut_ptr(), room, &mut count, &mut place) };
+    let status = unsafe { raw::wulambey_findings(input.as_ptr(), input.len(), text.as_mut_ptr(), room, &mut count, &mut place) };
     let cramped = room < due.len();
-    let wanted = if cramped { Wanted::Ends(2, Some(2)) } else { Wanted::Done(due.to_vec()) };
+    let wanted = if cramped {
+        Wanted::Ends(2, Some(2))
+    } else {
+        Wanted::Done(due.to_vec())
+    };
     let mut all = same(&wanted, &before, status, Some(count), place, &text);
     if all.is_ok() && !cramped {
         all = safe(wulambey::findings(&input), &Ok(due.to_vec()));
@@ -190,7 +212,13 @@ pub fn findings(random: &mut Random) -> Compared {
         way if way.starts_with("refused") => format!("the line {way}"),
         way => format!("{stations}: {way}"),
     };
-    all.map(|()| name).map_err(|why| format!("{why}\na text of {room} bytes; the other's is {:?}; farm\n{}", found.text, hex(&input)))
+    all.map(|()| name).map_err(|why| {
+        format!(
+            "{why}\na text of {room} bytes; the other's is {:?}; farm\n{}",
+            found.text,
+            hex(&input)
+        )
+    })
 }
 
 /// What a judged tally is to give: a status, a place, and the words of the tally after it.
@@ -201,8 +229,11 @@ fn judged(field: &Field, scheme: &Scheme, tally: &[u32], settles: bool) -> Resul
         return Err(Refusal { number: 2, place: 1 });
     }
     let mut after = tally.to_vec();
-    let rows: Vec<Vec<u32>> =
-        tally.chunks(words).take(scheme.stations).map(|row| row.iter().map(|&word| field.code(word)).collect()).collect();
+    let rows: Vec<Vec<u32>> = tally
+        .chunks(words)
+        .take(scheme.stations)
+        .map(|row| row.iter().map(|&word| field.code(word)).collect())
+        .collect();
     let own = &rows[0][..scheme.pages];
     let sums: Vec<Vec<u32>> = rows.iter().map(|row| row[scheme.pages..].to_vec()).collect();
     let end = if settles {
@@ -236,7 +267,13 @@ pub fn judge(random: &mut Random) -> Compared {
     let words = scheme.row_words();
     let unreduced = random.chance(10);
     let noise = random.chance(20);
-    let raised = |random: &mut Random, code: u32| if unreduced { code + field.q * random.below(1_000) as u32 } else { code };
+    let raised = |random: &mut Random, code: u32| {
+        if unreduced {
+            code + field.q * random.below(1_000) as u32
+        } else {
+            code
+        }
+    };
     let mut tally = vec![0; scheme.stations * words];
     if noise {
         // words that are not read
@@ -275,8 +312,17 @@ pub fn judge(random: &mut Random) -> Compared {
     for (settles, call) in [(false, "weigh"), (true, "settle")] {
         let (mut after, mut place) = (tally.clone(), UNWRITTEN);
         let judge = if settles { raw::wulambey_settle } else { raw::wulambey_weigh };
-        let status =
-            unsafe { judge(number, scheme.stations, scheme.pages, scheme.bound, after.as_mut_ptr(), after.len(), &mut place) };
+        let status = unsafe {
+            judge(
+                number,
+                scheme.stations,
+                scheme.pages,
+                scheme.bound,
+                after.as_mut_ptr(),
+                after.len(),
+                &mut place,
+            )
+        };
         let (wanted, name) = match known.map(|field| judged(&field, &scheme, &tally, settles)) {
             None => (Wanted::Ends(255, None), "no field".to_string()),
             Some(Err(Refusal { number, place })) => (Wanted::Ends(number, Some(place)), format!("refused {number} {place}")),
@@ -287,13 +333,20 @@ pub fn judge(random: &mut Random) -> Compared {
                     ASKS => "asks",
                     _ => "rows",
                 };
-                let wanted = if status == 0 { Wanted::Done(words) } else { Wanted::Ends(status, place) };
+                let wanted = if status == 0 {
+                    Wanted::Done(words)
+                } else {
+                    Wanted::Ends(status, place)
+                };
                 (wanted, format!("{what} by {rule}"))
             }
         };
         same(&wanted, &tally, status, None, place, &after).map_err(|why| {
             let Scheme { stations, pages, bound } = scheme;
-            format!("{call}, {why}\nfield {number}, M {stations}, N {pages}, f {bound}, tally\n{}", hex_words(&tally))
+            format!(
+                "{call}, {why}\nfield {number}, M {stations}, N {pages}, f {bound}, tally\n{}",
+                hex_words(&tally)
+            )
         })?;
         names.push(name);
     }

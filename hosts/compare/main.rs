@@ -65,16 +65,30 @@ fn main() {
 fn known() -> Result<(), String> {
     use reference::fields::{PRIME, SMALL};
     use reference::signatures::{sign, sums};
-    let holds = |example: bool, what: &str| if example { Ok(()) } else { Err(format!("the second implementation fails at {what}")) };
-    holds(sign(&SMALL, &[1, 2, 3], 3) == Ok(vec![3]) && sign(&PRIME, &[1, 2, 3], 3) == Ok(vec![18]), "the signature of 1, 2, 3")?;
-    holds(sums(&SMALL, &[3, 0, 5], 2) == Ok(vec![46, 81]) && sums(&PRIME, &[3, 0, 5], 2) == Ok(vec![144, 3_672]), "the sums of 3, 0, 5")?;
+    let holds = |example: bool, what: &str| {
+        if example {
+            Ok(())
+        } else {
+            Err(format!("the second implementation fails at {what}"))
+        }
+    };
+    holds(
+        sign(&SMALL, &[1, 2, 3], 3) == Ok(vec![3]) && sign(&PRIME, &[1, 2, 3], 3) == Ok(vec![18]),
+        "the signature of 1, 2, 3",
+    )?;
+    holds(
+        sums(&SMALL, &[3, 0, 5], 2) == Ok(vec![46, 81]) && sums(&PRIME, &[3, 0, 5], 2) == Ok(vec![144, 3_672]),
+        "the sums of 3, 0, 5",
+    )?;
     let read = |name: &str| std::fs::read_to_string(name).map_err(|error| format!("{name}: {error}"));
     let (farms, found) = (read("crates/farms/stdin")?, read("crates/farms/stdout")?);
     let mut wanted = String::new();
     let mut count = 0;
     for line in farms.lines() {
-        let bytes: Option<Vec<u8>> =
-            (0..line.len()).step_by(2).map(|at| line.get(at..at + 2).and_then(|two| u8::from_str_radix(two, 16).ok())).collect();
+        let bytes: Option<Vec<u8>> = (0..line.len())
+            .step_by(2)
+            .map(|at| line.get(at..at + 2).and_then(|two| u8::from_str_radix(two, 16).ok()))
+            .collect();
         let bytes = bytes.ok_or("crates/farms/stdin: a line that is not hexadecimal")?;
         wanted += &reference::program::findings(&bytes).text;
         wanted += "\n";
@@ -123,7 +137,13 @@ pub fn same<T: Copy + PartialEq + std::fmt::Debug>(
         Wanted::Ends(status, place) => (*status, UNWRITTEN, place.unwrap_or(UNWRITTEN)),
     };
     let differs = |what: &str, library: usize, second: usize| {
-        let name = |number: usize| if number == UNWRITTEN { "not written".to_string() } else { number.to_string() };
+        let name = |number: usize| {
+            if number == UNWRITTEN {
+                "not written".to_string()
+            } else {
+                number.to_string()
+            }
+        };
         Err(format!("{what}: the library's is {}, the other's {}", name(library), name(second)))
     };
     if status != want_status {
@@ -136,14 +156,25 @@ pub fn same<T: Copy + PartialEq + std::fmt::Debug>(
         return differs("the count", count, want_count);
     }
     match (0..after.len()).find(|&at| after[at] != buffer[at]) {
-        Some(at) => Err(format!("item {} of the buffer: the library's is {:?}, the other's {:?}", at + 1, after[at], buffer[at])),
+        Some(at) => Err(format!(
+            "item {} of the buffer: the library's is {:?}, the other's {:?}",
+            at + 1,
+            after[at],
+            buffer[at]
+        )),
         None => Ok(()),
     }
 }
 
 /// Compares what the safe module returns.
-pub fn safe<T: PartialEq + std::fmt::Debug>(got: Result<T, wulambey::Refusal>, wanted: &Result<T, reference::Refusal>) -> Result<(), String> {
-    let got = got.map_err(|refusal| reference::Refusal { number: refusal.number, place: refusal.place });
+pub fn safe<T: PartialEq + std::fmt::Debug>(
+    got: Result<T, wulambey::Refusal>,
+    wanted: &Result<T, reference::Refusal>,
+) -> Result<(), String> {
+    let got = got.map_err(|refusal| reference::Refusal {
+        number: refusal.number,
+        place: refusal.place,
+    });
     if got == *wanted {
         Ok(())
     } else {

@@ -51,7 +51,14 @@ pub mod raw {
             count: *mut usize,
             place: *mut usize,
         ) -> u32;
-        pub fn wulambey_findings(input: *const u8, input_len: usize, text: *mut u8, text_len: usize, count: *mut usize, place: *mut usize) -> u32;
+        pub fn wulambey_findings(
+            input: *const u8,
+            input_len: usize,
+            text: *mut u8,
+            text_len: usize,
+            count: *mut usize,
+            place: *mut usize,
+        ) -> u32;
         pub fn wulambey_weigh(
             field: u32,
             stations: usize,

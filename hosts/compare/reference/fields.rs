@@ -19,9 +19,30 @@ pub struct Field {
     codes: Codes,
 }
 
-pub const SMALL: Field = Field { name: "small", q: 256, places: 255, alpha: 2, codes: Codes::Binary { width: 8, polynomial: 285 } };
-pub const WIDE: Field = Field { name: "wide", q: 65_536, places: 1_920, alpha: 2, codes: Codes::Binary { width: 16, polynomial: 69_643 } };
-pub const PRIME: Field = Field { name: "prime", q: 65_537, places: 1_920, alpha: 3, codes: Codes::Whole };
+pub const SMALL: Field = Field {
+    name: "small",
+    q: 256,
+    places: 255,
+    alpha: 2,
+    codes: Codes::Binary { width: 8, polynomial: 285 },
+};
+pub const WIDE: Field = Field {
+    name: "wide",
+    q: 65_536,
+    places: 1_920,
+    alpha: 2,
+    codes: Codes::Binary {
+        width: 16,
+        polynomial: 69_643,
+    },
+};
+pub const PRIME: Field = Field {
+    name: "prime",
+    q: 65_537,
+    places: 1_920,
+    alpha: 3,
+    codes: Codes::Whole,
+};
 
 /// The field with this number in the calls from C.
 pub fn numbered(number: u32) -> Option<Field> {

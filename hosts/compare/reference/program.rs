@@ -16,7 +16,11 @@ pub fn findings(bytes: &[u8]) -> Findings {
         Ok(found) => found,
         Err(Refusal { number, place }) => {
             let text = format!("refused {number} {place}\n");
-            let way = if number == 8 { format!("refused {number}") } else { format!("refused {number} {place}") };
+            let way = if number == 8 {
+                format!("refused {number}")
+            } else {
+                format!("refused {number} {place}")
+            };
             Findings { text, way }
         }
     }
@@ -26,13 +30,20 @@ fn judge(bytes: &[u8]) -> Result<Findings, Refusal> {
     if bytes.len() < 3 {
         return refused(8, bytes.len() + 1);
     }
-    let scheme = Scheme { stations: bytes[0].into(), pages: bytes[1].into(), bound: bytes[2].into() };
+    let scheme = Scheme {
+        stations: bytes[0].into(),
+        pages: bytes[1].into(),
+        bound: bytes[2].into(),
+    };
     scheme.limits(&SMALL)?;
     let due = 3 + scheme.stations * scheme.pages;
     if bytes.len() != due {
         return refused(8, due.min(bytes.len()) + 1);
     }
-    let rows: Vec<Vec<u32>> = bytes[3..].chunks(scheme.pages).map(|row| row.iter().map(|&byte| byte.into()).collect()).collect();
+    let rows: Vec<Vec<u32>> = bytes[3..]
+        .chunks(scheme.pages)
+        .map(|row| row.iter().map(|&byte| byte.into()).collect())
+        .collect();
     let plain = scheme.plain();
     let mut count = (scheme.stations - 1) * if plain { scheme.pages } else { scheme.first_sums() };
     let end = if plain {

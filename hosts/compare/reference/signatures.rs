@@ -22,15 +22,20 @@ pub fn sign(field: &Field, job: &[u8], length: usize) -> Result<Vec<u32>, Refusa
     for k in 1..length {
         powers.push(field.product(powers[k - 1], field.alpha));
     }
-    let signature =
-        |page: &[u8]| page.iter().enumerate().fold(0, |total, (k, &byte)| field.sum(total, field.product(byte.into(), powers[length - 1 - k])));
+    let signature = |page: &[u8]| {
+        page.iter().enumerate().fold(0, |total, (k, &byte)| {
+            field.sum(total, field.product(byte.into(), powers[length - 1 - k]))
+        })
+    };
     Ok(job.chunks(length).map(signature).collect())
 }
 
 /// Sum j of a row, by Horner's rule from its last page.
 pub fn sum(field: &Field, row: &[u32], j: usize) -> u32 {
     let point = field.power(field.alpha, j);
-    row.iter().rev().fold(0, |total, &word| field.product(field.sum(total, field.code(word)), point))
+    row.iter()
+        .rev()
+        .fold(0, |total, &word| field.product(field.sum(total, field.code(word)), point))
 }
 
 /// Sums 1 to this count of a card.

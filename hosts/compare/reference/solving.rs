@@ -125,7 +125,10 @@ pub fn by_recurrence(field: &Field, pages: usize, values: &[u32], weight: usize)
     let mut roots = Vec::new();
     for page in 1..=pages {
         point = field.product(point, field.alpha);
-        let value = coefficients.iter().rev().fold(1, |value, &c| field.difference(field.product(value, point), c));
+        let value = coefficients
+            .iter()
+            .rev()
+            .fold(1, |value, &c| field.difference(field.product(value, point), c));
         if value == 0 {
             roots.push(page);
         }

@@ -81,9 +81,19 @@ pub struct Again {
 #[derive(Clone, Debug)]
 enum How {
     /// The station in all suspects, the base b, and for each page the station g and the difference of b and g; all differences.
-    Four { odd: usize, base: usize, leaders: Vec<usize>, differences: Differences },
+    Four {
+        odd: usize,
+        base: usize,
+        leaders: Vec<usize>,
+        differences: Differences,
+    },
     /// k, the other one of the stations 2 and 3, and the pair that was taken, as a difference.
-    Three { k: usize, other: usize, pair: (usize, usize), difference: Vec<u32> },
+    Three {
+        k: usize,
+        other: usize,
+        pair: (usize, usize),
+        difference: Vec<u32>,
+    },
 }
 
 /// The solved difference of each two stations, counted from 0, as a vector of codes.
@@ -143,9 +153,10 @@ fn weigh_four(field: &Field, scheme: &Scheme, own: &[u32], sums: &[Vec<u32>]) ->
     let disjoint = |(s, t): (usize, usize), (u, v): (usize, usize)| s != u && s != v && t != u && t != v;
     let is_suspect = |&pair: &(usize, usize)| match weight_of(pair) {
         None => true,
-        Some(own_weight) => {
-            pairs.iter().filter(|&&other| disjoint(pair, other)).all(|&other| weight_of(other).is_some_and(|w| w < own_weight))
-        }
+        Some(own_weight) => pairs
+            .iter()
+            .filter(|&&other| disjoint(pair, other))
+            .all(|&other| weight_of(other).is_some_and(|w| w < own_weight)),
     };
     let suspects: Vec<(usize, usize)> = pairs.iter().copied().filter(is_suspect).collect();
 
@@ -207,7 +218,16 @@ fn weigh_four(field: &Field, scheme: &Scheme, own: &[u32], sums: &[Vec<u32>]) ->
     }
     let base = if odd == 0 { 1 } else { 0 };
     let station = if odd == 0 { 2 } else { odd + 1 };
-    Weighed::Asks(Again { station, rule, how: How::Four { odd, base, leaders, differences } })
+    Weighed::Asks(Again {
+        station,
+        rule,
+        how: How::Four {
+            odd,
+            base,
+            leaders,
+            differences,
+        },
+    })
 }
 
 fn weigh_three(field: &Field, scheme: &Scheme, own: &[u32], sums: &[Vec<u32>]) -> Weighed {
@@ -228,7 +248,16 @@ fn weigh_three(field: &Field, scheme: &Scheme, own: &[u32], sums: &[Vec<u32>]) -
         (0, 2) => (1, 2, "three, {1,3}"),
         _ => (1, 2, "three, {2,3}"),
     };
-    let again = Again { station: k + 1, rule, how: How::Three { k, other, pair, difference } };
+    let again = Again {
+        station: k + 1,
+        rule,
+        how: How::Three {
+            k,
+            other,
+            pair,
+            difference,
+        },
+    };
     if scheme.all_sums() > h {
         return Weighed::Asks(again);
     }
@@ -253,7 +282,12 @@ pub fn settle(field: &Field, scheme: &Scheme, own: &[u32], sums: &[Vec<u32>]) ->
 pub fn finish(field: &Field, scheme: &Scheme, own: &[u32], sums: &[Vec<u32>], again: &Again) -> Settled {
     let all = scheme.all_sums();
     match &again.how {
-        How::Four { odd, base, leaders, differences } => {
+        How::Four {
+            odd,
+            base,
+            leaders,
+            differences,
+        } => {
             let of = |s: usize, t: usize| differences[s][t].as_ref().expect("a difference without the odd station");
             let to_leader: Vec<u32> = leaders.iter().enumerate().map(|(n, &g)| of(*base, g)[n]).collect();
             let values: Vec<u32> = (1..=all)
@@ -269,14 +303,27 @@ pub fn finish(field: &Field, scheme: &Scheme, own: &[u32], sums: &[Vec<u32>], ag
             let mut rows = vec![vec![0; scheme.pages]; scheme.stations];
             for n in 0..scheme.pages {
                 let leader = leaders[n];
-                let leading = if *odd == 0 { field.difference(own[n], solution[n]) } else { field.difference(own[n], of(0, leader)[n]) };
+                let leading = if *odd == 0 {
+                    field.difference(own[n], solution[n])
+                } else {
+                    field.difference(own[n], of(0, leader)[n])
+                };
                 for (s, row) in rows.iter_mut().enumerate() {
-                    row[n] = if s == *odd { field.sum(leading, solution[n]) } else { field.difference(leading, of(leader, s)[n]) };
+                    row[n] = if s == *odd {
+                        field.sum(leading, solution[n])
+                    } else {
+                        field.difference(leading, of(leader, s)[n])
+                    };
                 }
             }
             Settled::Rows(rows, if *odd == 0 { "7 with i = 1" } else { "7 with i > 1" })
         }
-        How::Three { k, other, pair, difference } => {
+        How::Three {
+            k,
+            other,
+            pair,
+            difference,
+        } => {
             let values = minus(field, &sums[0][..all], &sums[*k][..all]);
             let Some(list) = quickly(field, scheme.pages, &values, scheme.bound) else {
                 return Settled::Over("three, second");
@@ -285,7 +332,11 @@ pub fn finish(field: &Field, scheme: &Scheme, own: &[u32], sums: &[Vec<u32>], ag
             let mut rows = vec![own.to_vec(); 3];
             rows[*k] = minus(field, own, &apart);
             // the pair that was taken leads from a row that is known to the other one
-            rows[*other] = if pair.0 == 0 { minus(field, own, difference) } else { minus(field, &rows[*k], difference) };
+            rows[*other] = if pair.0 == 0 {
+                minus(field, own, difference)
+            } else {
+                minus(field, &rows[*k], difference)
+            };
             Settled::Rows(rows, again.rule)
         }
     }
@@ -298,5 +349,7 @@ pub fn split_page(rows: &[Vec<u32>]) -> Option<usize> {
 
 /// The word that more than half of the rows have on page n, counted from 0.
 pub fn majority(rows: &[Vec<u32>], n: usize) -> Option<u32> {
-    rows.iter().map(|row| row[n]).find(|&word| 2 * rows.iter().filter(|row| row[n] == word).count() > rows.len())
+    rows.iter()
+        .map(|row| row[n])
+        .find(|&word| 2 * rows.iter().filter(|row| row[n] == word).count() > rows.len())
 }
