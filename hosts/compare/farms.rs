@@ -222,6 +222,8 @@ pub fn findings(random: &mut Random) -> Compared {
 }
 
 /// What a judged tally is to give: a status, a place, and the words of the tally after it.
+/// A tally that is judged without a check is judged by its sums, also where a check with these numbers would be plain. RULES.md does not say so;
+/// it is what the library does.
 fn judged(field: &Field, scheme: &Scheme, tally: &[u32], settles: bool) -> Result<(u32, Option<usize>, Vec<u32>, &'static str), Refusal> {
     scheme.limits(field)?;
     let words = scheme.row_words();

@@ -7,7 +7,6 @@ mod random;
 #[allow(dead_code)]
 mod reference;
 #[path = "../rust/wulambey.rs"]
-#[allow(dead_code)]
 mod wulambey;
 
 use random::Random;
@@ -26,12 +25,13 @@ const KINDS: [(&str, fn(&mut Random) -> Compared); 7] = [
     ("weigh, settle", farms::judge),
 ];
 
-const MOST: usize = 1_000_000;
+/// The most inputs of each kind.
+const MOST: u64 = 1_000_000;
 
 fn main() {
     let arguments: Vec<String> = std::env::args().skip(1).collect();
     let number = |at: usize, default: u64| arguments.get(at).map_or(Some(default), |text| text.parse().ok());
-    let (Some(seed), Some(count @ 0..=1_000_000), 0..=2) = (number(0, 1), number(1, 100_000), arguments.len()) else {
+    let (Some(seed), Some(count), 0..=2) = (number(0, 1), number(1, 100_000).filter(|&count| count <= MOST), arguments.len()) else {
         eprintln!("usage: compare [SEED] [COUNT], numbers, and COUNT at most {MOST}");
         std::process::exit(2);
     };
@@ -43,7 +43,7 @@ fn main() {
     for (at, (kind, compare)) in KINDS.into_iter().enumerate() {
         // each kind has numbers of its own, so that it can be read alone
         let mut random = Random::new(Random::new(seed).bits() ^ Random::new(at as u64).bits());
-        let mut ways: BTreeMap<String, usize> = BTreeMap::new();
+        let mut ways: BTreeMap<String, u64> = BTreeMap::new();
         for case in 1..=count {
             match compare(&mut random) {
                 Ok(way) => *ways.entry(way).or_default() += 1,
@@ -129,6 +129,13 @@ pub fn same<T: Copy + PartialEq + std::fmt::Debug>(
     after: &[T],
 ) -> Result<(), String> {
     let mut buffer = before.to_vec();
+    if let Wanted::Done(front) = wanted {
+        if front.len() > buffer.len() {
+            return Err(format!(
+                "the status: the library's is {status}, and the other writes more than there is room for"
+            ));
+        }
+    }
     let (want_status, want_count, want_place) = match wanted {
         Wanted::Done(front) => {
             buffer[..front.len()].copy_from_slice(front);

@@ -1,5 +1,4 @@
 //! From Rust: signs a job, serves a request from its card, shows a refused call, and judges the example farm. Built and run by hosts/rust/run.
-#[allow(dead_code)]
 mod wulambey;
 
 use std::io::Write;

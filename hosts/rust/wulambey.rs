@@ -1,4 +1,5 @@
 //! Wulambey for programs in Rust: safe calls of the static library. docs/RULES.md says what is computed, docs/HOSTING.md how to link.
+#![allow(dead_code)] // a program seldom makes all calls
 
 /// The calls as the library has them; hosts/wulambey.h says what each does.
 pub mod raw {
