@@ -35,7 +35,9 @@ pub(crate) fn multiply<M: Modulus>(a: u32, b: u32) -> u32
     let mut y = code::<M>(b);
     let mut sum = 0;
     for _k in 0..M::WIDTH {
-        sum ^= y % 2 * x;
+        if y % 2 == 1 {
+            sum ^= x;
+        }
         x = shift::<M>(x);
         y /= 2;
     }
