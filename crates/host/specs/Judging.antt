@@ -1,14 +1,13 @@
 -- How a judgement ends for another program: a number, with a page, a station or a place beside it.
 use Rattle.std.specs.Prelude.{◌≡◌, List, ◌⊎◌, length, ℕ, Result, Ok, Err}
 use Rattle.field.specs.Field.{Ops}
-use Rattle.fields.specs.declared.FieldName.{FieldName}
-use Rattle.fields.specs.Names.{ops_of, number_of}
 use Rattle.refusal.specs.declared.Refusal.{Refusal}
 use Rattle.refusal.specs.Numbers.{number, place}
-use Rattle.refusal.specs.Rules.{Accepted, Refused}
+use Rattle.refusal.specs.Rules.{Accepted}
 use Rattle.tally.specs.declared.outcome.Outcome.{Outcome}
 use Rattle.tally.specs.declared.outcome.Outcome.TheVariants.{Over, Split, Filled, Asks}
 use Rattle.tally.specs.Judging.{judging}
+use Rattle.host.specs.Ending.{Lent, Refuses}
 
 abbrev pub status_of : Outcome → ℕ
 status_of Filled = 0
@@ -28,24 +27,13 @@ abbrev pub Told : Result Outcome Refusal → (before after status : ℕ) → Typ
 Told (Ok outcome) before after status = (status ≡ status_of outcome) × (after ≡ told_place before outcome)
 Told (Err refusal) before after status = (status ≡ number refusal) × (after ≡ place refusal)
 
--- what the caller lends: the tally and the place
-pub record Desk : Type 0 where
-  pub tally : List ℕ
-  pub place : ℕ
-
 -- what weighing or settling says of a tally before and after, in a field
 abbrev pub Says : Type 1
 Says = Ops → (M N bound : ℕ) → (before after : List ℕ) → Outcome → Type 0
 
-abbrev pub Judges : Says → Ops → (M N bound : ℕ) → (before after : Desk) → (status : ℕ) → Type 0
-Judges says f M N bound before after status =
-    (Accepted (judging f M N bound (length before.tally))
-    × ((outcome : Outcome) × says f M N bound before.tally after.tally outcome × (status ≡ status_of outcome) × (after.place ≡ told_place before.place outcome)))
-    ⊎ ((refusal : Refusal) × Refused (judging f M N bound (length before.tally)) refusal × (status ≡ number refusal)
-    × (after.tally ≡ before.tally) × (after.place ≡ place refusal))
-
--- the same in the field with a number; 255 where there is none
-abbrev pub JudgesIn : Says → ℕ → (M N bound : ℕ) → (before after : Desk) → (status : ℕ) → Type 0
-JudgesIn says field M N bound before after status =
-    ((name : FieldName) × (field ≡ number_of name) × Judges says (ops_of name) M N bound before after status)
-    ⊎ (((name : FieldName) → field ≡ number_of name → ⊥) × (status ≡ 255) × (after.tally ≡ before.tally) × (after.place ≡ before.place))
+abbrev pub Judges : Says → (M N bound : ℕ) → Ops → (before after : Lent (List ℕ)) → (status : ℕ) → Type 0
+Judges says M N bound f before after status =
+    (Accepted (judging f M N bound (length before.filled))
+    × ((outcome : Outcome) × says f M N bound before.filled after.filled outcome × (status ≡ status_of outcome)
+    × (after.place ≡ told_place before.place outcome)))
+    ⊎ Refuses (judging f M N bound (length before.filled)) before after status

@@ -1,21 +1,14 @@
 // Weighing and settling a tally for programs in C and Rust.
 ghost use Rattle.verdict.specs.Judging.{Weighed, Settled};
-ghost use Rattle.host.specs.Judging.{JudgesIn, Told};
+ghost use Rattle.host.specs.Ending.{EndsIn};
+ghost use Rattle.host.specs.Judging.{Judges, Told};
 
+use crate::status::{ASKS, DONE, NO_FIELD, OVER, SPLIT, refuse};
 use binary::{Small, Wide};
 use fields::FieldName;
 use prime::Prime;
 use refusal::Refusal;
 use verdict::Outcome;
-
-// What is returned beside 0, the rows are filled; refusals have lower numbers.
-const OVER: u32 = 251;
-
-const SPLIT: u32 = 252;
-
-const ASKS: u32 = 253;
-
-pub(crate) const NO_FIELD: u32 = 255;
 
 // Weighs in the field with this number: 1 small, 2 wide, 3 prime.
 // Returns 0: the rows are filled. 251: over. 252: split at the page in `place`. 253: the station in `place` is to be asked again.
@@ -29,9 +22,8 @@ pub extern "C" fn wulambey_weigh(
     tally: &mut [u32],
     place: &mut usize,
 ) -> u32
-    ensures { JudgesIn Weighed field stations pages bound
-        (record { tally = tally.entry.now; place = place.old })
-        (record { tally = tally.exit.now; place = place.new }) result }
+    ensures { EndsIn field (Judges Weighed stations pages bound)
+        (record { filled = tally.old; place = place.old }) (record { filled = tally.new; place = place.new }) result }
 {
     match FieldName::try_from(field) {
         Ok(FieldName::Small) => tell(
@@ -57,9 +49,8 @@ pub extern "C" fn wulambey_settle(
     tally: &mut [u32],
     place: &mut usize,
 ) -> u32
-    ensures { JudgesIn Settled field stations pages bound
-        (record { tally = tally.entry.now; place = place.old })
-        (record { tally = tally.exit.now; place = place.new }) result }
+    ensures { EndsIn field (Judges Settled stations pages bound)
+        (record { filled = tally.old; place = place.old }) (record { filled = tally.new; place = place.new }) result }
 {
     match FieldName::try_from(field) {
         Ok(FieldName::Small) => tell(
@@ -83,7 +74,7 @@ fn tell(judged: Result<Outcome, Refusal>, place: &mut usize) -> u32
     ensures { Told judged place.old place.new result }
 {
     match judged {
-        Ok(Outcome::Filled) => 0,
+        Ok(Outcome::Filled) => DONE,
         Ok(Outcome::Over) => OVER,
         Ok(Outcome::Split(page)) => {
             *place = page;
@@ -93,9 +84,6 @@ fn tell(judged: Result<Outcome, Refusal>, place: &mut usize) -> u32
             *place = station;
             ASKS
         }
-        Err(refusal) => {
-            *place = refusal.place();
-            refusal.number()
-        }
+        Err(refusal) => refuse(refusal, place),
     }
 }

@@ -6,17 +6,19 @@ ghost use Rattle.field.specs.Sums.{entry, power_sum};
 ghost use Rattle.page.specs.Pages.{page_signature};
 ghost use Rattle.host.specs.Numbered.{InField};
 
+use crate::status::NO_CODE;
 use binary::{Small, Wide};
 use fields::FieldName;
 use prime::Prime;
 
+mod findings;
 mod judging;
+mod serving;
+mod signing;
 mod solving;
+mod status;
 
 // Each call matches on the field, since each arm is another instance; a visitor in the place of five matches is longer.
-
-// What is returned where no field has the number; it is no code of any field.
-const NO_FIELD: u32 = 0xFFFF_FFFF;
 
 // The signature of a page of a job, in the field with this number: 1 small, 2 wide, 3 prime.
 #[unsafe(no_mangle)]
@@ -32,7 +34,7 @@ pub extern "C" fn wulambey_page_signature(
         Ok(FieldName::Small) => page::page_signature::<Small>(job, page_length, page),
         Ok(FieldName::Wide) => page::page_signature::<Wide>(job, page_length, page),
         Ok(FieldName::Prime) => page::page_signature::<Prime>(job, page_length, page),
-        Err(_) => NO_FIELD,
+        Err(_) => NO_CODE,
     }
 }
 
@@ -45,6 +47,6 @@ pub extern "C" fn wulambey_row_sum(field: u32, row: &[u32], j: usize) -> u32
         Ok(FieldName::Small) => page::row_sum::<Small>(row, j),
         Ok(FieldName::Wide) => page::row_sum::<Wide>(row, j),
         Ok(FieldName::Prime) => page::row_sum::<Prime>(row, j),
-        Err(_) => NO_FIELD,
+        Err(_) => NO_CODE,
     }
 }

@@ -1,16 +1,13 @@
 // Solving a difference for programs in C and Rust.
-ghost use Rattle.std.specs.Prelude.{◌≡◌};
-ghost use Rattle.host.specs.Solving.{Ends, EndsIn};
+ghost use Rattle.host.specs.Ending.{EndsIn};
+ghost use Rattle.host.specs.Solving.{Solves};
 
-use crate::judging::NO_FIELD;
+use crate::status::{DONE, NO_FIELD, NONE, refuse};
 use binary::{Small, Wide};
 use field::Field;
 use fields::FieldName;
 use prime::Prime;
 use solve::Entry;
-
-// What is returned where there is no solution; refusals have lower numbers.
-const NONE: u32 = 254;
 
 // Solves in the field with this number: 1 small, 2 wide, 3 prime.
 // Returns 0: solved, `count` pages in the list. 254: there is no solution. 255: no such field. Else the refusal's number, with its place.
@@ -24,9 +21,9 @@ pub extern "C" fn wulambey_solve(
     count: &mut usize,
     place: &mut usize,
 ) -> u32
-    ensures { EndsIn field pages weight values.now
-        (record { list = list.entry.now; count = count.old; place = place.old })
-        (record { list = list.exit.now; count = count.new; place = place.new }) result }
+    ensures { EndsIn field (λ f. Solves f pages weight values.now)
+        (record { filled = record { list = list.old; count = count.old }; place = place.old })
+        (record { filled = record { list = list.new; count = count.new }; place = place.new }) result }
 {
     match FieldName::try_from(field) {
         Ok(FieldName::Small) => solve_in::<Small>(pages, values, weight, list, count, place),
@@ -44,19 +41,16 @@ fn solve_in<F: Field>(
     count: &mut usize,
     place: &mut usize,
 ) -> u32
-    ensures { Ends F.Field.ops pages weight values.now
-        (record { list = list.entry.now; count = count.old; place = place.old })
-        (record { list = list.exit.now; count = count.new; place = place.new }) result }
+    ensures { Solves F.Field.ops pages weight values.now
+        (record { filled = record { list = list.old; count = count.old }; place = place.old })
+        (record { filled = record { list = list.new; count = count.new }; place = place.new }) result }
 {
     match solve::solve::<F>(pages, values, weight, list) {
         Ok(Some(listed)) => {
             *count = listed;
-            0
+            DONE
         }
         Ok(None) => NONE,
-        Err(refusal) => {
-            *place = refusal.place();
-            refusal.number()
-        }
+        Err(refusal) => refuse(refusal, place),
     }
 }
