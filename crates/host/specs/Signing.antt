@@ -1,5 +1,5 @@
 -- How another program's calls to sign a job and to sum a card end.
-use Rattle.std.specs.Prelude.{◌≡◌, ◌≤◌, ℕ, List, [], ◌∷◌, ◌++◌, map, length}
+use Rattle.std.specs.Prelude.{◌≡◌, ◌≤◌, ℕ, suc, List, [], ◌∷◌, ◌++◌, map, length}
 use Rattle.std.specs.List.{range_with_len}
 use Rattle.field.specs.Field.{Ops}
 use Rattle.field.specs.Sums.{entry, power_sum}
@@ -24,7 +24,7 @@ summing f words sums = making_card f words ++ (unless (sums ≤ 128) 11 0 ∷ []
 
 -- the sums 1 to count of a row
 abbrev pub row_sums : Ops → List ℕ → (count : ℕ) → List ℕ
-row_sums f row count = map (power_sum f (length row) (entry row)) (range_with_len 1 count)
+row_sums f row count = map (λ k. power_sum f (length row) (entry row) (suc k)) (range_with_len 0 count)
 
 -- the sums of the codes that a card's words count as
 abbrev pub SumsUp : Ops → (card : List ℕ) → (before after : Lent (List ℕ)) → (status : ℕ) → Type 0

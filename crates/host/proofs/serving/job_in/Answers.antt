@@ -1,9 +1,10 @@
-use Rattle.std.proofs.Common.{inl}
+use Rattle.host.specs.Ending.{lent}
+use Rattle.host.proofs.Served.{told_job}
 use Rattle.host.proofs.serving.job_in.Goals as goal
 
 pub returns-in-Ok : goal.returns-in-Ok
 returns-in-Ok g c =
-    let e = c.in-Ok.ensures in
-    let pages = rw e.1.1.1 at c.serve_from.ensures in
-    let length = rw e.1.1.0 at pages in
-    inl (e.0, rw e.1.0 at length)
+    let made = c.in-Ok.ensures in
+    told_job g.F.Field.ops c.args.station c.args.request.now (lent c.args.reply.now c.args.count.now c.args.place.now)
+    (lent c.serve_from.new.reply c.serve_from.new.count c.serve_from.new.place) c.serve_from.result
+    c.args.page_length c.in-Ok.shelf.page_length c.in-Ok.shelf.pages c.args.job.now c.in-Ok.shelf.job.now made.1 made.2 made.3 made.0 c.serve_from.ensures
