@@ -35,7 +35,6 @@ mod c {
             len: usize,
             place: *mut usize,
         ) -> u32;
-        #[cfg(serving)]
         pub fn wulambey_serve_card(
             field: u32,
             card: *const u32,
@@ -48,7 +47,6 @@ mod c {
             count: *mut usize,
             place: *mut usize,
         ) -> u32;
-        #[cfg(serving)]
         pub fn wulambey_serve_job(
             field: u32,
             job: *const u8,
@@ -108,7 +106,6 @@ pub fn judge(field: u32, farm: &Farm, tally: &mut [u32]) -> (Outcome, Outcome) {
     (weighed, outcome(settled, place))
 }
 
-#[cfg(serving)]
 pub fn serve_card(field: u32, card: &[u32], request: &[u32], reply: &mut [u32]) -> usize {
     let (mut count, mut place) = (0, 0);
     let status = unsafe {
@@ -129,7 +126,6 @@ pub fn serve_card(field: u32, card: &[u32], request: &[u32], reply: &mut [u32]) 
     count
 }
 
-#[cfg(serving)]
 pub fn serve_job(field: u32, job: &[u8], length: usize, request: &[u32], reply: &mut [u32]) -> usize {
     let (mut count, mut place) = (0, 0);
     let status = unsafe {

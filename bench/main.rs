@@ -163,13 +163,11 @@ fn solving<F: Named>(turns: usize, numbers: &mut Numbers, pages: usize, weight: 
 }
 
 /// A request of check 1 to station 1 for sums first to last.
-#[cfg(serving)]
 fn request(first: usize, last: usize) -> [u32; 4] {
     [1 << 28 | 1, 2 << 28 | 1, 3 << 28 | first as u32, 5 << 28 | last as u32]
 }
 
 /// Serving sums first to last from a card.
-#[cfg(serving)]
 fn serving_card<F: Named>(turns: usize, card: &[u32], first: usize, last: usize) -> Times {
     let request = &request(first, last);
     let room = 5 + last - first;
@@ -201,7 +199,6 @@ fn serving_card<F: Named>(turns: usize, card: &[u32], first: usize, last: usize)
 }
 
 /// Serving sums first to last from a job's bytes.
-#[cfg(serving)]
 fn serving_job<F: Named>(turns: usize, job: &[u8], first: usize, last: usize) -> Times {
     let request = &request(first, last);
     let room = 5 + last - first;
@@ -289,26 +286,6 @@ fn judging<F: Named>(turns: usize, numbers: &mut Numbers, pages: usize, bound: u
     (times, asked)
 }
 
-/// Three digits of a figure.
-fn digits(value: f64) -> String {
-    let places = if value >= 99.95 { 0 } else if value >= 9.995 { 1 } else { 2 };
-    format!("{value:.places$}")
-}
-
-fn print_head(what: &str) {
-    println!("\n| {what} | field | ours | plain Rust | ratio | FLINT | ratio | faster |");
-    println!("|---|---|---|---|---|---|---|---|");
-}
-
-/// A line of the table: the figures by their times, and how many times as long ours takes.
-fn print_line(what: &str, field: &str, times: Times, figure: impl Fn(f64) -> f64) {
-    let Times([ours, plain, flint, faster]) = times;
-    let cell = |time: Option<f64>| time.map_or("-".into(), |time| digits(figure(time)));
-    let ratio = |time: Option<f64>| time.map_or("-".into(), |time| format!("{:.2}", ours.unwrap() / time));
-    let cells = [cell(ours), cell(plain), ratio(plain), cell(flint), ratio(flint), cell(faster)];
-    println!("| {what} | {field} | {} |", cells.join(" | "));
-}
-
 fn micros(time: f64) -> f64 {
     time / 1_000.0
 }
@@ -317,29 +294,46 @@ fn millis(time: f64) -> f64 {
     time / 1_000_000.0
 }
 
-fn print_field<F: Named>(numbers: &mut Numbers, all: &[u8], first: bool) {
-    // One field's lines of each table; a table's head is printed by its caller.
-    let _ = first;
-    let job = &all[..LENGTH * F::MOST];
+/// Three digits of a figure.
+fn digits(value: f64) -> String {
+    let places = (2.0 - value.log10().floor()).max(0.0) as usize;
+    format!("{value:.places$}")
+}
+
+/// A line of the table: the figures by their times, and how many times as long ours takes.
+fn line(what: String, field: &str, times: Times, figure: impl Fn(f64) -> f64) -> String {
+    let Times([ours, plain, flint, faster]) = times;
+    let cell = |time: Option<f64>| time.map_or("-".into(), |time| digits(figure(time)));
+    let ratio = |time: Option<f64>| time.map_or("-".into(), |time| format!("{:.2}", ours.unwrap() / time));
+    let cells = [cell(ours), cell(plain), ratio(plain), cell(flint), ratio(flint), cell(faster)];
+    format!("| {what} | {field} | {} |", cells.join(" | "))
+}
+
+/// One field's lines, one for each operation.
+fn lines<F: Named>(numbers: &mut Numbers, all: &[u8]) -> Vec<String> {
     let pages = F::MOST;
+    let job = &all[..LENGTH * pages];
     let row = numbers.row::<F>(pages);
-    let bytes = job.len() as f64;
-    print_line(&format!("signing {pages} pages, MB/s"), F::NAME, signing::<F>(10, job), |time| bytes * 1_000.0 / time);
-    print_line(&format!("one sum of {pages} signatures, µs"), F::NAME, summing::<F>(60, &row), micros);
-    print_line(&format!("solving {pages} pages, 128 sums, weight 64, µs"), F::NAME, solving::<F>(40, numbers, pages, 64), micros);
-    #[cfg(serving)]
+    let rate = |time| job.len() as f64 * 1_000.0 / time;
+    let mut lines = vec![
+        line(format!("signing {pages} pages, MB/s"), F::NAME, signing::<F>(15, job), rate),
+        line(format!("one sum of {pages} signatures, µs"), F::NAME, summing::<F>(100, &row), micros),
+        line(format!("solving {pages} pages, 128 sums, weight 64, µs"), F::NAME, solving::<F>(60, numbers, pages, 64), micros),
+    ];
     for (first, last) in [(1, 64), (65, 128)] {
-        print_line(&format!("serving sums {first} to {last}, card, ms"), F::NAME, serving_card::<F>(10, &row, first, last), millis);
+        let times = serving_card::<F>(20, &row, first, last);
+        lines.push(line(format!("serving sums {first} to {last} from a card, ms"), F::NAME, times, millis));
     }
-    #[cfg(serving)]
     for (first, last) in [(1, 64), (65, 128)] {
-        print_line(&format!("serving sums {first} to {last}, job, ms"), F::NAME, serving_job::<F>(2, job, first, last), millis);
+        let times = serving_job::<F>(2, job, first, last);
+        lines.push(line(format!("serving sums {first} to {last} from a job, ms"), F::NAME, times, millis));
     }
     for (held, farm) in [(Held::ByOne, "64 strays at one station"), (Held::ByAll, "8 strays at each station")] {
-        let (times, asked) = judging::<F>(12, numbers, pages, 64, held);
-        let ends = if asked { "weigh, settle" } else { "weigh" };
-        print_line(&format!("judging, {farm} ({ends}), ms"), F::NAME, times, millis);
+        let (times, asked) = judging::<F>(20, numbers, pages, 64, held);
+        let ends = if asked { "weighed and settled" } else { "weighed" };
+        lines.push(line(format!("judging {farm}, {ends}, ms"), F::NAME, times, millis));
     }
+    lines
 }
 
 /// How long each operation takes, by pages and by bound.
@@ -355,24 +349,20 @@ fn growth<F: Named>(numbers: &mut Numbers, job: &[u8]) -> [plot::Panel; 2] {
     };
     let row = numbers.row::<F>(1920);
     let numbers = std::cell::RefCell::new(numbers);
-    let line = |name, points| plot::Line { name, points };
+    let curve = |name, points| plot::Line { name, points };
     let by_pages = vec![
-        line("signing", over(PAGES, Box::new(|n| signing::<F>(4, &job[..LENGTH * n])))),
-        line("one sum", over(PAGES, Box::new(|n| summing::<F>(40, &row[..n])))),
-        line("solving", over(PAGES, Box::new(|n| solving::<F>(20, &mut numbers.borrow_mut(), n, 64)))),
-        #[cfg(serving)]
-        line("serving, card", over(PAGES, Box::new(|n| serving_card::<F>(6, &row[..n], 1, 64)))),
-        #[cfg(serving)]
-        line("serving, job", over(PAGES, Box::new(|n| serving_job::<F>(1, &job[..LENGTH * n], 1, 64)))),
-        line("judging", over(PAGES, Box::new(|n| judging::<F>(6, &mut numbers.borrow_mut(), n, 64, Held::ByOne).0))),
+        curve("signing", over(PAGES, Box::new(|n| signing::<F>(4, &job[..LENGTH * n])))),
+        curve("one sum", over(PAGES, Box::new(|n| summing::<F>(40, &row[..n])))),
+        curve("solving", over(PAGES, Box::new(|n| solving::<F>(20, &mut numbers.borrow_mut(), n, 64)))),
+        curve("serving, card", over(PAGES, Box::new(|n| serving_card::<F>(6, &row[..n], 1, 64)))),
+        curve("serving, job", over(PAGES, Box::new(|n| serving_job::<F>(1, &job[..LENGTH * n], 1, 64)))),
+        curve("judging", over(PAGES, Box::new(|n| judging::<F>(6, &mut numbers.borrow_mut(), n, 64, Held::ByOne).0))),
     ];
     let by_bound = vec![
-        line("solving", over(BOUNDS, Box::new(|f| solving::<F>(20, &mut numbers.borrow_mut(), 1920, f)))),
-        #[cfg(serving)]
-        line("serving, card", over(BOUNDS, Box::new(|f| serving_card::<F>(6, &row, 1, f)))),
-        #[cfg(serving)]
-        line("serving, job", over(BOUNDS, Box::new(|f| serving_job::<F>(1, job, 1, f)))),
-        line("judging", over(BOUNDS, Box::new(|f| judging::<F>(6, &mut numbers.borrow_mut(), 1920, f, Held::ByOne).0))),
+        curve("solving", over(BOUNDS, Box::new(|f| solving::<F>(20, &mut numbers.borrow_mut(), 1920, f)))),
+        curve("serving, card", over(BOUNDS, Box::new(|f| serving_card::<F>(6, &row, 1, f)))),
+        curve("serving, job", over(BOUNDS, Box::new(|f| serving_job::<F>(1, job, 1, f)))),
+        curve("judging", over(BOUNDS, Box::new(|f| judging::<F>(6, &mut numbers.borrow_mut(), 1920, f, Held::ByOne).0))),
     ];
     [
         plot::Panel { title: format!("{}, f = 64", F::NAME), axis: "pages N", lines: by_pages },
@@ -385,7 +375,7 @@ fn print_growth(panel: &plot::Panel) {
     println!("\n| {}: ours, ms, by {} | {} |", panel.title, panel.axis, sizes.join(" | "));
     println!("|---|{}", "---|".repeat(sizes.len()));
     for line in &panel.lines {
-        let cells: Vec<String> = line.points.iter().map(|point| format!("{:.3}", millis(point.1))).collect();
+        let cells: Vec<String> = line.points.iter().map(|point| digits(millis(point.1))).collect();
         println!("| {} | {} |", line.name, cells.join(" | "));
     }
 }
@@ -395,14 +385,16 @@ fn main() {
     calls::flint_open();
     let mut numbers = Numbers(1);
     let job: Vec<u8> = (0..LENGTH * 1920).map(|_| numbers.next() as u8).collect();
-    print_head("what");
-    print_field::<Small>(&mut numbers, &job, true);
-    print_field::<Wide>(&mut numbers, &job, false);
-    print_field::<Prime>(&mut numbers, &job, false);
+    let tables = [lines::<Small>(&mut numbers, &job), lines::<Wide>(&mut numbers, &job), lines::<Prime>(&mut numbers, &job)];
+    println!("| what | field | ours | plain Rust | ratio | FLINT | ratio | faster |");
+    println!("|---|---|---|---|---|---|---|---|");
+    for operation in 0..tables[0].len() {
+        tables.iter().for_each(|lines| println!("{}", lines[operation]));
+    }
     let panels: Vec<plot::Panel> =
         growth::<Wide>(&mut numbers, &job).into_iter().chain(growth::<Prime>(&mut numbers, &job)).collect();
     panels.iter().for_each(print_growth);
     let path = std::env::args().nth(1).expect("where the plot goes");
     std::fs::write(&path, plot::draw(&panels)).expect("the plot is written");
-    eprintln!("\n{path} is drawn; {:.0} s in all", start.elapsed().as_secs_f64());
+    eprintln!("\n{path} is drawn; all took {:.0} s", start.elapsed().as_secs_f64());
 }

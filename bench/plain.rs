@@ -47,7 +47,7 @@ impl<const WIDTH: u32, const POLY: u32> Field for Binary<WIDTH, POLY> {
         let (mut x, mut y, mut sum) = (b, a, 0);
         for _ in 0..WIDTH {
             sum ^= (y & 1) * x;
-            x = (x << 1) ^ ((x >> (WIDTH - 1)) * POLY);
+            x = (x << 1) ^ ((x >> (WIDTH - 1) & 1) * POLY);
             y >>= 1;
         }
         sum
@@ -63,7 +63,7 @@ impl<const WIDTH: u32, const POLY: u32> Field for Binary<WIDTH, POLY> {
     }
 
     fn alpha_add(a: u32, c: u32) -> u32 {
-        (a << 1) ^ ((a >> (WIDTH - 1)) * POLY) ^ c
+        (a << 1) ^ ((a >> (WIDTH - 1) & 1) * POLY) ^ c
     }
 }
 
