@@ -18,7 +18,7 @@ module _ {A : Type 0} where
   Refuses rules before after status =
       (refusal : Refusal) × Refused rules refusal × (status ≡ number refusal) × (after.filled ≡ before.filled) × (after.place ≡ place refusal)
 
-  -- 0 where no rule refuses, and filled as said
+  -- 0 where no rule refuses, and filled as said; or refused
   abbrev pub Fills : List Rule → (said : A → A → Type 0) → (before after : Lent A) → (status : ℕ) → Type 0
   Fills rules said before after status =
       (Accepted rules × (status ≡ 0) × said before.filled after.filled × (after.place ≡ before.place)) ⊎ Refuses rules before after status

@@ -47,64 +47,40 @@ fn card_in<F: Field>(
     }
 }
 
-// The same from a job's bytes.
+// The same from a job's bytes, in pages of `length` bytes.
 #[unsafe(no_mangle)]
 pub extern "C" fn wulambey_serve_job(
     field: u32,
     job: &[u8],
-    page_length: usize,
+    length: usize,
     station: u32,
     request: &[u32],
     reply: &mut [u32],
     count: &mut usize,
     place: &mut usize,
 ) -> u32
-    ensures { EndsIn field (λ f. ServesJob f page_length job.now station request.now) (lent reply.old count.old place.old) (lent reply.new count.new place.new) result }
+    ensures { EndsIn field (λ f. ServesJob f length job.now station request.now) (lent reply.old count.old place.old) (lent reply.new count.new place.new) result }
 {
     match FieldName::try_from(field) {
-        Ok(FieldName::Small) => job_in::<Small>(
-            job,
-            page_length,
-            station,
-            request,
-            reply,
-            count,
-            place,
-        ),
-        Ok(FieldName::Wide) => job_in::<Wide>(
-            job,
-            page_length,
-            station,
-            request,
-            reply,
-            count,
-            place,
-        ),
-        Ok(FieldName::Prime) => job_in::<Prime>(
-            job,
-            page_length,
-            station,
-            request,
-            reply,
-            count,
-            place,
-        ),
+        Ok(FieldName::Small) => job_in::<Small>(job, length, station, request, reply, count, place),
+        Ok(FieldName::Wide) => job_in::<Wide>(job, length, station, request, reply, count, place),
+        Ok(FieldName::Prime) => job_in::<Prime>(job, length, station, request, reply, count, place),
         Err(_) => NO_FIELD,
     }
 }
 
 fn job_in<F: Field>(
     job: &[u8],
-    page_length: usize,
+    length: usize,
     station: u32,
     request: &[u32],
     reply: &mut [u32],
     count: &mut usize,
     place: &mut usize,
 ) -> u32
-    ensures { ServesJob F.Field.ops page_length job.now station request.now (lent reply.old count.old place.old) (lent reply.new count.new place.new) result }
+    ensures { ServesJob F.Field.ops length job.now station request.now (lent reply.old count.old place.old) (lent reply.new count.new place.new) result }
 {
-    match Shelf::<F>::new(job, page_length) {
+    match Shelf::<F>::new(job, length) {
         Ok(shelf) => serve_from(&shelf, station, request, reply, count, place),
         Err(refusal) => refuse(refusal, place),
     }
