@@ -294,6 +294,11 @@ fn millis(time: f64) -> f64 {
     time / 1_000_000.0
 }
 
+/// A number up to 999,999.
+fn grouped(number: usize) -> String {
+    if number < 1_000 { number.to_string() } else { format!("{},{:03}", number / 1_000, number % 1_000) }
+}
+
 /// Three digits of a figure.
 fn digits(value: f64) -> String {
     let places = (2.0 - value.log10().floor()).max(0.0) as usize;
@@ -314,11 +319,12 @@ fn lines<F: Named>(numbers: &mut Numbers, all: &[u8]) -> Vec<String> {
     let pages = F::MOST;
     let job = &all[..LENGTH * pages];
     let row = numbers.row::<F>(pages);
+    let counted = grouped(pages);
     let rate = |time| job.len() as f64 * 1_000.0 / time;
     let mut lines = vec![
-        line(format!("signing {pages} pages, MB/s"), F::NAME, signing::<F>(15, job), rate),
-        line(format!("one sum of {pages} signatures, µs"), F::NAME, summing::<F>(100, &row), micros),
-        line(format!("solving {pages} pages, 128 sums, weight 64, µs"), F::NAME, solving::<F>(60, numbers, pages, 64), micros),
+        line(format!("signing {counted} pages, MB/s"), F::NAME, signing::<F>(15, job), rate),
+        line(format!("one sum of {counted} signatures, µs"), F::NAME, summing::<F>(100, &row), micros),
+        line(format!("solving {counted} pages, 128 sums, weight 64, µs"), F::NAME, solving::<F>(60, numbers, pages, 64), micros),
     ];
     for (first, last) in [(1, 64), (65, 128)] {
         let times = serving_card::<F>(20, &row, first, last);
@@ -355,13 +361,13 @@ fn growth<F: Named>(numbers: &mut Numbers, job: &[u8]) -> [plot::Panel; 2] {
         curve("one sum", over(PAGES, Box::new(|n| summing::<F>(40, &row[..n])))),
         curve("solving", over(PAGES, Box::new(|n| solving::<F>(20, &mut numbers.borrow_mut(), n, 64)))),
         curve("serving, card", over(PAGES, Box::new(|n| serving_card::<F>(6, &row[..n], 1, 64)))),
-        curve("serving, job", over(PAGES, Box::new(|n| serving_job::<F>(1, &job[..LENGTH * n], 1, 64)))),
+        curve("serving, job", over(PAGES, Box::new(|n| serving_job::<F>(2, &job[..LENGTH * n], 1, 64)))),
         curve("judging", over(PAGES, Box::new(|n| judging::<F>(6, &mut numbers.borrow_mut(), n, 64, Held::ByOne).0))),
     ];
     let by_bound = vec![
         curve("solving", over(BOUNDS, Box::new(|f| solving::<F>(20, &mut numbers.borrow_mut(), 1920, f)))),
         curve("serving, card", over(BOUNDS, Box::new(|f| serving_card::<F>(6, &row, 1, f)))),
-        curve("serving, job", over(BOUNDS, Box::new(|f| serving_job::<F>(1, job, 1, f)))),
+        curve("serving, job", over(BOUNDS, Box::new(|f| serving_job::<F>(2, job, 1, f)))),
         curve("judging", over(BOUNDS, Box::new(|f| judging::<F>(6, &mut numbers.borrow_mut(), 1920, f, Held::ByOne).0))),
     ];
     [
@@ -371,7 +377,7 @@ fn growth<F: Named>(numbers: &mut Numbers, job: &[u8]) -> [plot::Panel; 2] {
 }
 
 fn print_growth(panel: &plot::Panel) {
-    let sizes: Vec<String> = panel.lines[0].points.iter().map(|point| point.0.to_string()).collect();
+    let sizes: Vec<String> = panel.lines[0].points.iter().map(|point| grouped(point.0 as usize)).collect();
     println!("\n| {}: ours, ms, by {} | {} |", panel.title, panel.axis, sizes.join(" | "));
     println!("|---|{}", "---|".repeat(sizes.len()));
     for line in &panel.lines {
