@@ -49,6 +49,13 @@ fn work<'a, T>(work: impl FnMut() -> T + 'a) -> Work<'a, T> {
 #[derive(Clone, Copy)]
 struct Times([Option<f64>; 4]);
 
+impl Times {
+    fn better(self, other: Times) -> Times {
+        let least = |a: Option<f64>, b: Option<f64>| a.zip(b).map(|(a, b)| a.min(b));
+        Times(std::array::from_fn(|k| least(self.0[k], other.0[k])))
+    }
+}
+
 /// Times them turn about, each so often in a turn; all come to the same.
 fn race<T: PartialEq + Debug>(turns: usize, often: usize, mut works: [Work<T>; 4]) -> Times {
     let mut least = [None; 4];
@@ -305,39 +312,53 @@ fn digits(value: f64) -> String {
     format!("{value:.places$}")
 }
 
-/// A line of the table: the figures by their times, and how many times as long ours takes.
-fn line(what: String, field: &str, times: Times, figure: impl Fn(f64) -> f64) -> String {
-    let Times([ours, plain, flint, faster]) = times;
-    let cell = |time: Option<f64>| time.map_or("-".into(), |time| digits(figure(time)));
-    let ratio = |time: Option<f64>| time.map_or("-".into(), |time| format!("{:.2}", ours.unwrap() / time));
-    let cells = [cell(ours), cell(plain), ratio(plain), cell(flint), ratio(flint), cell(faster)];
-    format!("| {what} | {field} | {} |", cells.join(" | "))
+/// An operation in a field, timed.
+struct Line {
+    what: String,
+    times: Times,
+    figure: Box<dyn Fn(f64) -> f64>,
+}
+
+impl Line {
+    fn new(what: String, times: Times, figure: impl Fn(f64) -> f64 + 'static) -> Line {
+        Line { what, times, figure: Box::new(figure) }
+    }
+
+    /// The figures by their times, and how many times as long ours takes.
+    fn print(&self, field: &str) {
+        let Times([ours, plain, flint, faster]) = self.times;
+        let cell = |time: Option<f64>| time.map_or("-".into(), |time| digits((self.figure)(time)));
+        let ratio = |time: Option<f64>| time.map_or("-".into(), |time| format!("{:.2}", ours.unwrap() / time));
+        let cells = [cell(ours), cell(plain), ratio(plain), cell(flint), ratio(flint), cell(faster)];
+        println!("| {} | {field} | {} |", self.what, cells.join(" | "));
+    }
 }
 
 /// One field's lines, one for each operation.
-fn lines<F: Named>(numbers: &mut Numbers, all: &[u8]) -> Vec<String> {
+fn lines<F: Named>(numbers: &mut Numbers, all: &[u8]) -> Vec<Line> {
     let pages = F::MOST;
     let job = &all[..LENGTH * pages];
     let row = numbers.row::<F>(pages);
     let counted = grouped(pages);
-    let rate = |time| job.len() as f64 * 1_000.0 / time;
+    let bytes = job.len() as f64;
+    let rate = move |time| bytes * 1_000.0 / time;
     let mut lines = vec![
-        line(format!("signing {counted} pages, MB/s"), F::NAME, signing::<F>(15, job), rate),
-        line(format!("one sum of {counted} signatures, µs"), F::NAME, summing::<F>(100, &row), micros),
-        line(format!("solving {counted} pages, 128 sums, weight 64, µs"), F::NAME, solving::<F>(60, numbers, pages, 64), micros),
+        Line::new(format!("signing {counted} pages, MB/s"), signing::<F>(10, job), rate),
+        Line::new(format!("one sum of {counted} signatures, µs"), summing::<F>(100, &row), micros),
+        Line::new(format!("solving {counted} pages, 128 sums, weight 64, µs"), solving::<F>(60, numbers, pages, 64), micros),
     ];
     for (first, last) in [(1, 64), (65, 128)] {
         let times = serving_card::<F>(20, &row, first, last);
-        lines.push(line(format!("serving sums {first} to {last} from a card, ms"), F::NAME, times, millis));
+        lines.push(Line::new(format!("serving sums {first} to {last} from a card, ms"), times, millis));
     }
     for (first, last) in [(1, 64), (65, 128)] {
-        let times = serving_job::<F>(2, job, first, last);
-        lines.push(line(format!("serving sums {first} to {last} from a job, ms"), F::NAME, times, millis));
+        let times = serving_job::<F>(1, job, first, last);
+        lines.push(Line::new(format!("serving sums {first} to {last} from a job, ms"), times, millis));
     }
     for (held, farm) in [(Held::ByOne, "64 strays at one station"), (Held::ByAll, "8 strays at each station")] {
-        let (times, asked) = judging::<F>(20, numbers, pages, 64, held);
+        let (times, asked) = judging::<F>(15, numbers, pages, 64, held);
         let ends = if asked { "weighed and settled" } else { "weighed" };
-        lines.push(line(format!("judging {farm}, {ends}, ms"), F::NAME, times, millis));
+        lines.push(Line::new(format!("judging {farm}, {ends}, ms"), times, millis));
     }
     lines
 }
@@ -361,13 +382,13 @@ fn growth<F: Named>(numbers: &mut Numbers, job: &[u8]) -> [plot::Panel; 2] {
         curve("one sum", over(PAGES, Box::new(|n| summing::<F>(40, &row[..n])))),
         curve("solving", over(PAGES, Box::new(|n| solving::<F>(20, &mut numbers.borrow_mut(), n, 64)))),
         curve("serving, card", over(PAGES, Box::new(|n| serving_card::<F>(6, &row[..n], 1, 64)))),
-        curve("serving, job", over(PAGES, Box::new(|n| serving_job::<F>(2, &job[..LENGTH * n], 1, 64)))),
+        curve("serving, job", over(PAGES, Box::new(|n| serving_job::<F>(1, &job[..LENGTH * n], 1, 64)))),
         curve("judging", over(PAGES, Box::new(|n| judging::<F>(6, &mut numbers.borrow_mut(), n, 64, Held::ByOne).0))),
     ];
     let by_bound = vec![
         curve("solving", over(BOUNDS, Box::new(|f| solving::<F>(20, &mut numbers.borrow_mut(), 1920, f)))),
         curve("serving, card", over(BOUNDS, Box::new(|f| serving_card::<F>(6, &row, 1, f)))),
-        curve("serving, job", over(BOUNDS, Box::new(|f| serving_job::<F>(2, job, 1, f)))),
+        curve("serving, job", over(BOUNDS, Box::new(|f| serving_job::<F>(1, job, 1, f)))),
         curve("judging", over(BOUNDS, Box::new(|f| judging::<F>(6, &mut numbers.borrow_mut(), 1920, f, Held::ByOne).0))),
     ];
     [
@@ -391,16 +412,23 @@ fn main() {
     calls::flint_open();
     let mut numbers = Numbers(1);
     let job: Vec<u8> = (0..LENGTH * 1920).map(|_| numbers.next() as u8).collect();
-    let tables = [lines::<Small>(&mut numbers, &job), lines::<Wide>(&mut numbers, &job), lines::<Prime>(&mut numbers, &job)];
+    // Two passes, since others use the machine: the better figure of each stands.
+    let mut passes = [1, 2].map(|_| {
+        let tables = [lines::<Small>(&mut numbers, &job), lines::<Wide>(&mut numbers, &job), lines::<Prime>(&mut numbers, &job)];
+        let panels: Vec<plot::Panel> =
+            growth::<Wide>(&mut numbers, &job).into_iter().chain(growth::<Prime>(&mut numbers, &job)).collect();
+        (tables, panels)
+    });
+    let [(tables, panels), (again, more)] = &mut passes;
+    tables.iter_mut().flatten().zip(again.iter().flatten()).for_each(|(line, again)| line.times = line.times.better(again.times));
+    panels.iter_mut().zip(more.iter()).for_each(|(panel, more)| panel.take_better(more));
     println!("| what | field | ours | plain Rust | ratio | FLINT | ratio | faster |");
     println!("|---|---|---|---|---|---|---|---|");
     for operation in 0..tables[0].len() {
-        tables.iter().for_each(|lines| println!("{}", lines[operation]));
+        tables.iter().zip(["small", "wide", "prime"]).for_each(|(lines, field)| lines[operation].print(field));
     }
-    let panels: Vec<plot::Panel> =
-        growth::<Wide>(&mut numbers, &job).into_iter().chain(growth::<Prime>(&mut numbers, &job)).collect();
     panels.iter().for_each(print_growth);
     let path = std::env::args().nth(1).expect("where the plot goes");
-    std::fs::write(&path, plot::draw(&panels)).expect("the plot is written");
+    std::fs::write(&path, plot::draw(panels)).expect("the plot is written");
     eprintln!("\n{path} is drawn; all took {:.0} s", start.elapsed().as_secs_f64());
 }

@@ -13,6 +13,17 @@ pub struct Panel {
     pub lines: Vec<Line>,
 }
 
+impl Panel {
+    /// Takes the lesser time of each point of two panels of the same lines.
+    pub fn take_better(&mut self, other: &Panel) {
+        for (line, other) in self.lines.iter_mut().zip(&other.lines) {
+            for (point, other) in line.points.iter_mut().zip(&other.points) {
+                *point = (point.0, point.1.min(other.1), point.2.min(other.2));
+            }
+        }
+    }
+}
+
 const WIDTH: f64 = 310.0;
 const HEIGHT: f64 = 400.0;
 const LEFT: f64 = 72.0;
