@@ -497,7 +497,8 @@ impl<G: Fn(usize, usize, usize) -> u32> Others<'_, G> {
     }
 }
 
-/// What the first sums of four stations and more say and, where the station that is asked again has told all its sums, what they say.
+/// What the first sums of four stations and more say and, where the station that is asked again has told all its sums,
+/// what these say.
 pub fn judge<F: Field>(farm: &Farm, tally: &mut [u32], all_told: bool) -> Outcome {
     let pairs = farm.solve_pairs::<F>(tally);
     let doubt = farm.doubt(&pairs);

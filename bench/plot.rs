@@ -59,10 +59,12 @@ fn draw_panel(svg: &mut String, panel: &Panel, left: f64, top: f64) {
     for size in &sizes {
         let x = across(*size);
         writeln!(svg, "<path d=\"M{x:.1} 0V{HEIGHT}\" stroke=\"#bbb\" stroke-width=\"0.6\"/>").unwrap();
-        writeln!(svg, "<text x=\"{x:.1}\" y=\"{}\" text-anchor=\"middle\">{}</text>", HEIGHT + 16.0, crate::grouped(*size as usize)).unwrap();
+        let label = crate::grouped(*size as usize);
+        writeln!(svg, "<text x=\"{x:.1}\" y=\"{}\" text-anchor=\"middle\">{label}</text>", HEIGHT + 16.0).unwrap();
     }
     writeln!(svg, "<text x=\"{}\" y=\"{}\" text-anchor=\"middle\">{}</text>", WIDTH / 2.0, HEIGHT + 34.0, panel.axis).unwrap();
-    writeln!(svg, "<text transform=\"translate(-58,{}) rotate(-90)\" text-anchor=\"middle\">time</text>", HEIGHT / 2.0).unwrap();
+    let middle = HEIGHT / 2.0;
+    writeln!(svg, "<text transform=\"translate(-58,{middle}) rotate(-90)\" text-anchor=\"middle\">time</text>").unwrap();
     let mut labels = vec![];
     for line in &panel.lines {
         let ours = path(line.points.iter().map(|(size, ours, _)| (across(*size), height_of(*ours))));
@@ -94,7 +96,8 @@ pub fn draw(panels: &[Panel]) -> String {
     for (k, panel) in panels.iter().enumerate() {
         draw_panel(&mut svg, panel, LEFT + ACROSS * (k % 2) as f64, TOP + DOWN * (k / 2) as f64);
     }
-    writeln!(svg, "<text x=\"{LEFT}\" y=\"{}\">Solid with dots: ours. Dashed: the same method in plain Rust. Serving tells sums 1 to f; judging is of 8 stations, f strays at one.</text>", height - 12.0)
-        .unwrap();
+    let legend = "Solid with dots: ours. Dashed: the same method in plain Rust. Serving tells sums 1 to f; \
+                  judging is of 8 stations, f strays at one.";
+    writeln!(svg, "<text x=\"{LEFT}\" y=\"{}\">{legend}</text>", height - 12.0).unwrap();
     svg + "</svg>\n"
 }
