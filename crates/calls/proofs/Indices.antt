@@ -3,8 +3,8 @@ use Rattle.std.proofs.Common.{◌≡◌, ℕ, suc, ◌+◌, ◌-◌, ◌*◌, �
 use native.Mathlib.Decide.{dec_le}
 use Rattle.algebra.specs.Vectors.{Page}
 use Rattle.refusal.specs.Rules.{Within}
-use Rattle.link.specs.declared.asked.Asked.{Asked}
-use Rattle.link.specs.declared.asked.Asked.TheVariants.{Sums, Signatures}
+use Rattle.wire.specs.declared.asked.Asked.{Asked}
+use Rattle.wire.specs.declared.asked.Asked.TheVariants.{Sums, Signatures}
 use Rattle.tally.specs.Rows.{row_start, tally_size}
 use Rattle.tally.proofs.PlacesApart.{row_below}
 use Rattle.calls.specs.Entering.{place_of}

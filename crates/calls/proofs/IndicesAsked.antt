@@ -1,8 +1,8 @@
 -- What the question of an asking is for may be asked for, and so what a request of that asking is for.
 use Rattle.std.proofs.Common.{◌≡◌, ℕ, Option, sym, subst, inl, inr, arith}
-use Rattle.link.specs.declared.asked.Asked.{Asked}
-use Rattle.link.specs.declared.asked.Asked.TheVariants.{Sums, Signatures}
-use Rattle.link.specs.declared.request.Request.{Request}
+use Rattle.wire.specs.declared.asked.Asked.{Asked}
+use Rattle.wire.specs.declared.asked.Asked.TheVariants.{Sums, Signatures}
+use Rattle.wire.specs.declared.request.Request.{Request}
 use Rattle.calls.specs.declared.terms.Terms.{Terms}
 use Rattle.calls.specs.declared.question.Question.{Question}
 use Rattle.calls.specs.Runs.{Stage, first, second, closed, AsksOnly}

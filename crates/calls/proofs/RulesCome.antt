@@ -9,25 +9,25 @@ use Rattle.calls.specs.declared.terms.Terms.{Terms}
 use Rattle.calls.specs.declared.phases.Verdict.{Verdict}
 use Rattle.calls.specs.declared.phases.Verdict.TheVariants.{Report, Split, Over}
 use Rattle.calls.specs.Runs.{closed}
-use Rattle.calls.specs.Steady.{copies, sums}
-use Rattle.calls.specs.Promise.{TrulyWeighs, TrulyAsks, TrulySettles, ClosedBy, Judged}
+use Rattle.calls.specs.Closing.{WeighsBy}
+use Rattle.calls.specs.Replies.{AsksBy, SettlesBy, ClosedAs, JudgedBy}
 
-module _ (f : Ops) (holds : ℕ → List ℕ) (t : Terms) where
+module _ (f : Ops) (t : Terms) (T P : Table) where
   -- an outcome to which the rules come
   abbrev Truly : Outcome → Type 0
-  Truly over = Comes f t.stations t.pages t.bound (sums f t.pages holds) (sums f t.pages holds) (copies holds 1) over
-  Truly (split n) = Comes f t.stations t.pages t.bound (sums f t.pages holds) (sums f t.pages holds) (copies holds 1) (split n)
-  Truly (filled R) = Fills f t.stations t.pages t.bound (sums f t.pages holds) (sums f t.pages holds) (copies holds 1) (copies holds) R
+  Truly over = Comes f t.stations t.pages t.bound T T (P 1) over
+  Truly (split n) = Comes f t.stations t.pages t.bound T T (P 1) (split n)
+  Truly (filled R) = Fills f t.stations t.pages t.bound T T (P 1) P R
   Truly (asks k) = Unit {0}
 
-  weighs_come : (o : Outcome) → TrulyWeighs f holds t o → Truly o
+  weighs_come : (o : Outcome) → WeighsBy f t T P o → Truly o
   weighs_come o (inl x) = subst Truly (sym x.1) (inl (x.2, x.3))
   weighs_come over (inr (not, w)) = (not, inl w)
   weighs_come (split n) (inr (not, w)) = (not, inl w)
   weighs_come (filled R) (inr (not, w)) = inr (not, inl w)
   weighs_come (asks k) (inr x) = tt
 
-  settles_come : (k : ℕ) → TrulyAsks f holds t k → (o : Outcome) → TrulySettles f holds t o → Truly o
+  settles_come : (k : ℕ) → AsksBy f t T P k → (o : Outcome) → SettlesBy f t T P o → Truly o
   settles_come k a over x = (a.0, inr ((k, a.1), x))
   settles_come k a (split n) x = (a.0, inr ((k, a.1), x))
   settles_come k a (filled R) x = inr (a.0, inr ((k, a.1), x))
@@ -35,18 +35,18 @@ module _ (f : Ops) (holds : ℕ → List ℕ) (t : Terms) where
 
   -- over, a split, or a report whose rows stand in the tally
   abbrev pub Ended : (tally : List ℕ) → Verdict → Type 0
-  Ended tally Over = Comes f t.stations t.pages t.bound (sums f t.pages holds) (sums f t.pages holds) (copies holds 1) over
-  Ended tally (Split n) = EndsSplit f t.stations t.pages t.bound (sums f t.pages holds) (sums f t.pages holds) (copies holds 1) (copies holds) n
+  Ended tally Over = Comes f t.stations t.pages t.bound T T (P 1) over
+  Ended tally (Split n) = EndsSplit f t.stations t.pages t.bound T T (P 1) P n
   Ended tally Report =
-      (R : Table) × EndsReport f t.stations t.pages t.bound (sums f t.pages holds) (sums f t.pages holds) (copies holds 1) (copies holds) R
+      (R : Table) × EndsReport f t.stations t.pages t.bound T T (P 1) P R
       × Same t.stations t.pages (signature_in tally t.pages) R
 
-  ended : (Ends : Outcome → Type 0) → ((o : Outcome) → Ends o → Truly o) → (tally : List ℕ) (v : Verdict) → ClosedBy f holds t tally Ends v → Ended tally v
-  ended Ends come tally Over x = come over x
-  ended Ends come tally (Split n) (inl x) = inl (come (split n) x)
-  ended Ends come tally (Split n) (inr x) = inr (x.0, come (filled x.0) x.1, x.2)
-  ended Ends come tally Report x = (x.0, (come (filled x.0) x.1, x.2), x.3)
+  ended : (Ends : Outcome → Type 0) → ((o : Outcome) → Ends o → Truly o) → (tally : List ℕ) (v : Verdict) → ClosedAs t tally Ends v → Ended tally v
+  ended Ends come tally Over x = come over x.0
+  ended Ends come tally (Split n) (inl x) = inl (come (split n) x.0)
+  ended Ends come tally (Split n) (inr x) = inr (x.0, come (filled x.0) x.1, x.3)
+  ended Ends come tally Report x = (x.0, (come (filled x.0) x.1, x.3), x.2)
 
-  pub rules_come : (tally : List ℕ) (again : Option ℕ) (v : Verdict) → Judged f holds t tally (closed again v) → Ended tally v
-  rules_come tally None v x = ended (TrulyWeighs f holds t) weighs_come tally v x
-  rules_come tally (Some k) v x = ended (TrulySettles f holds t) (settles_come k x.0) tally v x.1
+  pub rules_come : (tally : List ℕ) (again : Option ℕ) (v : Verdict) → JudgedBy f t T P tally (closed again v) → Ended tally v
+  rules_come tally None v x = ended (WeighsBy f t T P) weighs_come tally v x
+  rules_come tally (Some k) v x = ended (SettlesBy f t T P) (settles_come k x.0) tally v x.1

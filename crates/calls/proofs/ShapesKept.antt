@@ -1,5 +1,5 @@
 -- A check has the shape of its stage at every moment of every run.
-use Rattle.std.proofs.Common.{◌≡◌, ℕ, List, length, set, ◌≢◌, Ok, Err, sym, ap, ◌∙◌, subst, arith, Option, None, Some}
+use Rattle.std.proofs.Common.{◌≡◌, ℕ, List, length, set, ◌≢◌, Ok, Err, refl, sym, ap, ◌∙◌, subst, arith, Option, None, Some}
 use native.Mathlib.Decide.{ℕ_discrete}
 use Rattle.field.specs.Field.{Ops, Laws, Spread, page_limit}
 use Rattle.refusal.specs.Rules.{Within, Accepted}
@@ -83,6 +83,21 @@ module _ (f : Ops) where
     step_kept (settle_closes {k = k} {v = v} {t = t} x) h = closes (Some k) v (length t) x.book x.accepted h
     step_kept (settle_refused e x) h = stays x.1 h
     step_kept (lists x) h = h
+
+-- the terms stay
+pub terms_stay : {f : Ops} {b b' : Book} {g g' : Stage} {c : Call} → Step f b g c b' g' → b'.terms ≡ b.terms
+terms_stay (slips only {r = Ok p} asked x) = x.1.keeps.terms
+terms_stay (slips only {r = Err e} asked x) = ap (λ (b : Book). b.terms) x.1
+terms_stay (takes only {r = Ok u} asked x) = x.1.keeps.terms
+terms_stay (takes only {r = Err e} asked x) = ap (λ (b : Book). b.terms) x.1
+terms_stay (returns {r = Ok r} x) = x.1.keeps.terms
+terms_stay (returns {r = Err e} x) = ap (λ (b : Book). b.terms) x.1
+terms_stay (weigh_closes x) = ap (λ (b : Book). b.terms) x.book
+terms_stay (weigh_asks x) = x.again.terms
+terms_stay (weigh_refused e x) = ap (λ (b : Book). b.terms) x.1
+terms_stay (settle_closes x) = ap (λ (b : Book). b.terms) x.book
+terms_stay (settle_refused e x) = ap (λ (b : Book). b.terms) x.1
+terms_stay (lists x) = refl
 
 pub shape_kept : (f : Ops) → Laws f → Spread f → (own tally : List ℕ) (ks : List Call) (b : Book) (g : Stage) → Run f own tally ks b g → Shape f b g
 shape_kept f laws spread own tally _ b _ (opened o) = record {

@@ -1,8 +1,8 @@
 -- What a check takes fits its count: a reply has few values, and no more replies were taken than slips handed out.
 use Rattle.std.proofs.Common.{◌≡◌, ℕ, ◌+◌, ◌^◌, ◌<◌, ◌≤◌, List, [], ◌∷◌, arith}
 use Rattle.std.proofs.lemmas.List.Sums.{sum_by-cons}
-use Rattle.link.specs.declared.request.Request.{Request}
-use Rattle.link.specs.Requests.{values_due}
+use Rattle.wire.specs.declared.request.Request.{Request}
+use Rattle.wire.specs.Requests.{values_due}
 use Rattle.calls.specs.declared.standing.Standing.{Standing}
 use Rattle.calls.specs.declared.standing.Standing.TheVariants.{Free, Out, Heard, Done}
 use Rattle.calls.specs.declared.book.Book.{Book}

@@ -1,8 +1,10 @@
 -- Where weighing and settling did what the rules say, and strays are few or the check is plain, what was found is right.
-use Rattle.std.proofs.Common.{ℕ, ◌≤◌, ◌⊎◌, List, Option, sym, ◌∙◌, refl, inl, inr, arith}
+use Rattle.std.proofs.Common.{◌≡◌, ℕ, ◌≤◌, ◌⊎◌, List, Option, sym, ◌∙◌, refl, inl, inr, arith}
 use Rattle.field.specs.Field.{Ops, Laws, Spread, page_limit}
 use Rattle.refusal.specs.Rules.{Within}
-use Rattle.scheme.specs.Farm.{Same, Bad, strays}
+use Rattle.field.specs.Sums.{power_sum}
+use Rattle.algebra.specs.Vectors.{Codes}
+use Rattle.scheme.specs.Farm.{Table, Station, Same, Bad, strays}
 use Rattle.scheme.specs.Theorem.{Told, Finds}
 use Rattle.scheme.proofs.Tables.{bad_same}
 use Rattle.scheme.proofs.Truth.{right}
@@ -12,39 +14,40 @@ use Rattle.calls.specs.declared.phases.Verdict.{Verdict}
 use Rattle.calls.specs.declared.phases.Verdict.TheVariants.{Report, Split, Over}
 use Rattle.calls.specs.Questions.{PlainTerms}
 use Rattle.calls.specs.Runs.{Stage, first, second, closed}
-use Rattle.calls.specs.Steady.{FarmHolds, copies, sums}
-use Rattle.calls.specs.Promise.{Judged, Differs, Right}
+use Rattle.calls.specs.Replies.{JudgedBy}
+use Rattle.calls.specs.Promise.{Differs, Right}
 use Rattle.calls.proofs.RulesCome.{Ended, rules_come}
 use Rattle.calls.proofs.BadPages.{bad_differs, differs_bad, listed_as}
 
-module _ (f : Ops) (l : Laws f) (spread : Spread f) (holds : ℕ → List ℕ) (t : Terms) (pages : Within 1 (page_limit f) t.pages)
-    (farm : FarmHolds f t.stations t.pages holds) (few : PlainTerms t ⊎ (strays t.stations (copies holds) t.pages ≤ t.bound)) where
-  finds : Finds f t.stations t.pages t.bound (copies holds) (sums f t.pages holds) (sums f t.pages holds) (copies holds 1)
+module _ (f : Ops) (l : Laws f) (spread : Spread f) (t : Terms) (pages : Within 1 (page_limit f) t.pages) (T P : Table)
+    (codes : (s : ℕ) → Station t.stations s → Codes f t.pages (P s)) (true : (s j : ℕ) → T s j ≡ power_sum f t.pages (P s) j)
+    (few : PlainTerms t ⊎ (strays t.stations P t.pages ≤ t.bound)) where
+  finds : Finds f t.stations t.pages t.bound P T T (P 1)
   finds =
-      right f l spread t.stations t.pages t.bound t.stations_in.0 (omega (arith, pages.1)) (copies holds) (sums f t.pages holds) (sums f t.pages holds) (copies holds 1)
-      farm.codes (elim few [ inl plain ↦ inl plain | inr le ↦ inr (le, told) ])
+      right f l spread t.stations t.pages t.bound t.stations_in.0 (omega (arith, pages.1)) P T T (P 1) codes
+      (elim few [ inl plain ↦ inl plain | inr le ↦ inr (le, told) ])
     where
-      told : Told f t.stations t.pages t.bound (copies holds) (sums f t.pages holds) (sums f t.pages holds) (copies holds 1)
-      told = record { own_row = λ n p. refl; first = λ s j a p. refl; own_sums = λ j p. refl; second = λ k j w p. refl }
+      told : Told f t.stations t.pages t.bound P T T (P 1)
+      told = record { own_row = λ n p. refl; first = λ s j a p. true s j; own_sums = λ j p. true 1 j; second = λ k j w p. true k j }
 
-  closed_right : (tally : List ℕ) (again : Option ℕ) (v : Verdict) → Ended f holds t tally v → Right holds t tally (closed again v)
+  closed_right : (tally : List ℕ) (again : Option ℕ) (v : Verdict) → Ended f t T P tally v → Right P t tally (closed again v)
   closed_right tally again Over x = finds.never_over x
   closed_right tally again (Split n) x = finds.split_true n x
   closed_right tally again Report (R, x, same) = record {
     decided = (finds.report_true R x).0;
     rows = rows;
     lists = λ s count before after h.
-        listed_as t.pages (Bad t.stations (signature_in tally t.pages) s) (Differs t.stations (copies holds) s)
-        (λ n p bad. bad_differs t.stations (copies holds) n s ((finds.report_true R x).0 n p)
-        (bad_same t.stations t.pages (copies holds) (signature_in tally t.pages) (λ s n a p. sym (rows s n a p)) n p s h.0.1.1.0 bad))
-        (λ n p d. bad_same t.stations t.pages (signature_in tally t.pages) (copies holds) rows n p s h.0.1.1.0 (differs_bad t.stations (copies holds) n s d))
+        listed_as t.pages (Bad t.stations (signature_in tally t.pages) s) (Differs t.stations P s)
+        (λ n p bad. bad_differs t.stations P n s ((finds.report_true R x).0 n p)
+        (bad_same t.stations t.pages P (signature_in tally t.pages) (λ s n a p. sym (rows s n a p)) n p s h.0.1.1.0 bad))
+        (λ n p d. bad_same t.stations t.pages (signature_in tally t.pages) P rows n p s h.0.1.1.0 (differs_bad t.stations P n s d))
         before after count h.1;
   }
     where
-      rows : Same t.stations t.pages (signature_in tally t.pages) (copies holds)
+      rows : Same t.stations t.pages (signature_in tally t.pages) P
       rows s n a p = same s n a p ∙ finds.rows_true R x.0 s n a p
 
-  pub true_reports : (tally : List ℕ) (g : Stage) → Judged f holds t tally g → Right holds t tally g
+  pub true_reports : (tally : List ℕ) (g : Stage) → JudgedBy f t T P tally g → Right P t tally g
   true_reports tally first x = tt
   true_reports tally (second k) x = tt
-  true_reports tally (closed again v) x = closed_right tally again v (rules_come f holds t tally again v x)
+  true_reports tally (closed again v) x = closed_right tally again v (rules_come f t T P tally again v x)

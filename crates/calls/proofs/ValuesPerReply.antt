@@ -1,9 +1,9 @@
 -- How many values an accepted reply has: as many as the asking's question is for.
 use Rattle.std.proofs.Common.{◌≡◌, ℕ, suc, ◌-◌, List, length, ap, ◌∙◌, arith, length-append}
 use Rattle.field.specs.Field.{Ops}
-use Rattle.link.specs.Requests.{request_words}
-use Rattle.link.specs.Reading.{Reply}
-use Rattle.link.specs.declared.request.Request.{Request}
+use Rattle.wire.specs.Requests.{request_words}
+use Rattle.wire.specs.Reading.{Reply}
+use Rattle.wire.specs.declared.request.Request.{Request}
 use Rattle.calls.specs.declared.question.Question.{Question}
 use Rattle.calls.specs.declared.book.Book.{Book}
 use Rattle.calls.specs.Slips.{OutHere}

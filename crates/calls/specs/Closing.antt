@@ -7,8 +7,9 @@ use Rattle.refusal.specs.Rules.{Rule, Within, unless, lowest, Refused, Accepted}
 use Rattle.scheme.specs.Farm.{Table, Same}
 use Rattle.scheme.specs.Askings.{Outcome, over, split, filled, asks}
 use Rattle.scheme.specs.Closing.{Splits, Reports}
-use Rattle.tally.specs.Rows.{signature_in, Filled, tally_size}
-use Rattle.verdict.specs.Judging.{Weighs, Comes}
+use Rattle.scheme.specs.Weighing as rules
+use Rattle.tally.specs.Rows.{sum_in, signature_in, Filled, tally_size}
+use Rattle.verdict.specs.Judging.{Comes}
 use Rattle.calls.specs.declared.standing.Standing.TheVariants.{Free, Done}
 use Rattle.calls.specs.declared.terms.Terms.{Terms}
 use Rattle.calls.specs.declared.book.Book.{Book}
@@ -36,25 +37,31 @@ Lacking b s = Within 2 b.terms.stations s × (standing b s ≢ Done)
 abbrev pub closing : Book → (room : ℕ) → List Rule
 closing b room = unless (tally_size b.terms.stations b.terms.pages ≤ room) 2 1 ∷ lowest (StillOut b) 4 ∷ lowest (Lacking b) 7 ∷ []
 
-module _ (f : Ops) (t : Terms) (tally : List ℕ) where
-  -- in a plain check the rows are at hand: they are told
-  abbrev pub AtHand : Outcome → Type 0
-  AtHand o = (R : Table) × (o ≡ filled R) × PlainTerms t × Same t.stations t.pages R (signature_in tally t.pages)
+-- what weighing comes to where the sums T and the rows P are told: in a plain check the rows at hand, else what the rules say of the first sums
+abbrev pub WeighsBy : Ops → Terms → (T P : Table) → Outcome → Type 0
+WeighsBy f t T P o =
+    ((R : Table) × (o ≡ filled R) × PlainTerms t × Same t.stations t.pages R P)
+    ⊎ ((¬ PlainTerms t) × rules.Weighs f t.stations t.pages t.bound T (P 1) o)
 
-  -- what weighing comes to by what stands in the tally: the rows at hand, else what the rules say of the first sums
+module _ (f : Ops) (t : Terms) (tally : List ℕ) where
+  -- by what stands in the tally
   abbrev pub WeighEnds : Outcome → Type 0
-  WeighEnds o = AtHand o ⊎ ((¬ PlainTerms t) × Weighs f t.stations t.pages t.bound tally tally o)
+  WeighEnds = WeighsBy f t (sum_in tally t.pages) (signature_in tally t.pages)
 
   -- what settling comes to: what the rules say of all sums
   abbrev pub SettleEnds : Outcome → Type 0
   SettleEnds o = Comes f t.stations t.pages t.bound tally tally o
 
--- How a check closes, by what the rules end in: rows that are filled are written, and split or reported on; else nothing is written.
-module _ (Ends : Outcome → Type 0) (M N : ℕ) (before after : List ℕ) where
-  abbrev pub Finds : Verdict → Type 0
-  Finds Over = Ends over × (after ≡ before)
-  Finds (Split n) = (Ends (split n) × (after ≡ before)) ⊎ ((R : Table) × Ends (filled R) × Filled M N before after R × Splits M N R n)
-  Finds Report = (R : Table) × Ends (filled R) × Filled M N before after R × Reports M N R
+-- How a check closes, by what the rules end in: over or a split at once, with the tally as it was; or on rows that are filled, with the tally as they make it.
+module _ (M N : ℕ) (Ends : Outcome → Type 0) (Kept : Type 0) (Made : Table → Type 0) where
+  abbrev pub ClosesBy : Verdict → Type 0
+  ClosesBy Over = Ends over × Kept
+  ClosesBy (Split n) = (Ends (split n) × Kept) ⊎ ((R : Table) × Ends (filled R) × Made R × Splits M N R n)
+  ClosesBy Report = (R : Table) × Ends (filled R) × Made R × Reports M N R
+
+-- by what the tally holds before and after: the rows that are filled are written, and else nothing is
+abbrev pub Finds : (Outcome → Type 0) → (M N : ℕ) → (before after : List ℕ) → Verdict → Type 0
+Finds Ends M N before after = ClosesBy M N Ends (after ≡ before) (Filled M N before after)
 
 -- the check closes with verdict v and keeps its book
 pub record WeighCloses (f : Ops) (b : Book) (before : List ℕ) (v : Verdict) (b' : Book) (after : List ℕ) : Type 0 where

@@ -3,10 +3,10 @@ use Rattle.std.specs.Prelude.{◌≡◌, ℕ, ◌+◌, ◌-◌, ◌<◌, ◌≤�
 use Rattle.field.specs.Field.{Ops}
 use Rattle.field.specs.Sums.{entry, power_sum}
 use Rattle.algebra.specs.Vectors.{Page}
-use Rattle.link.specs.Words.{value_of}
-use Rattle.link.specs.declared.asked.Asked.{Asked}
-use Rattle.link.specs.declared.asked.Asked.TheVariants.{Sums, Signatures}
-use Rattle.link.specs.declared.request.Request.{Request}
+use Rattle.wire.specs.Words.{value_of}
+use Rattle.wire.specs.declared.asked.Asked.{Asked}
+use Rattle.wire.specs.declared.asked.Asked.TheVariants.{Sums, Signatures}
+use Rattle.wire.specs.declared.request.Request.{Request}
 use Rattle.tally.specs.Rows.{signature_place, sum_place, signature_in, sum_in, tally_size}
 
 -- where what is asked for under an index stands in the row of station s

@@ -8,4 +8,5 @@ pub mod Endings
 pub mod Listing
 pub mod Runs
 pub mod Steady
+pub mod Replies
 pub mod Promise

@@ -1,23 +1,23 @@
 -- The promise: what holds at every moment of every run of calls on a check.
-use Rattle.std.specs.Prelude.{◌≡◌, ℕ, ◌+◌, ◌-◌, ◌*◌, ◌≤◌, min, cond, ◌≢◌, ◌⊎◌, List, [], ◌∷◌, length, Some, None, Ok, ◌==◌}
+use Rattle.std.specs.Prelude.{◌≡◌, ℕ, ◌+◌, ◌-◌, ◌*◌, ◌≤◌, min, cond, ◌≢◌, ◌⊎◌, List, [], ◌∷◌, length, Some, Ok, Option, ◌==◌}
 use Rattle.field.specs.Field.{Ops, Laws, Spread}
-use Rattle.algebra.specs.Vectors.{Page}
-use Rattle.scheme.specs.Farm.{Table, Same, Majority, Decided, strays}
-use Rattle.scheme.specs.Askings.{first_sums, Outcome, over, split, filled, asks}
-use Rattle.scheme.specs.Weighing.{Weighs}
-use Rattle.scheme.specs.Closing.{Splits, Reports}
-use Rattle.scheme.specs.Settling.{Settles}
+use Rattle.field.specs.Sums.{entry, power_sum}
+use Rattle.algebra.specs.Vectors.{Page, Codes}
+use Rattle.scheme.specs.Farm.{Table, Station, Same, Majority, Decided, strays}
+use Rattle.scheme.specs.Askings.{first_sums, Outcome}
+use Rattle.scheme.specs.Closing.{Reports}
 use Rattle.tally.specs.Rows.{signature_in}
 use Rattle.tally.specs.Listing.{Listed}
 use Rattle.calls.specs.declared.book.Book.{Book}
 use Rattle.calls.specs.declared.terms.Terms.{Terms}
 use Rattle.calls.specs.declared.slip.Returned.TheVariants.{Answered, Blank}
-use Rattle.calls.specs.declared.phases.Verdict.{Verdict}
 use Rattle.calls.specs.declared.phases.Verdict.TheVariants.{Report, Split, Over}
 use Rattle.calls.specs.Questions.{PlainTerms}
+use Rattle.calls.specs.Closing.{WeighsBy}
 use Rattle.calls.specs.Listing.{Listing}
 use Rattle.calls.specs.Runs.{Stage, first, second, closed, Call, slip, take, return, Run}
-use Rattle.calls.specs.Steady.{FarmHolds, copies, sums, Steady}
+use Rattle.calls.specs.Steady.{FarmHolds, copies, sums, OneTally, Steady}
+use Rattle.calls.specs.Replies.{AsTold, AsksBy, SettlesBy, JudgedBy, ClosedRun, RepliesJudged, RepliesDecide}
 
 -- ── counts
 
@@ -62,55 +62,65 @@ pub record Counted (ks : List Call) (b : Book) : Type 0 where
 -- ── answers
 
 module _ (f : Ops) (holds : ℕ → List ℕ) (t : Terms) where
-  -- what weighing comes to by what the stations hold: in a plain check the rows at hand, else what the rules say of the first sums
+  -- what weighing comes to by what the stations hold
   abbrev pub TrulyWeighs : Outcome → Type 0
-  TrulyWeighs o =
-      ((R : Table) × (o ≡ filled R) × PlainTerms t × Same t.stations t.pages R (copies holds))
-      ⊎ ((¬ PlainTerms t) × Weighs f t.stations t.pages t.bound (sums f t.pages holds) (copies holds 1) o)
+  TrulyWeighs = WeighsBy f t (sums f t.pages holds) (copies holds)
 
   -- weighing asks station k again
   abbrev pub TrulyAsks : ℕ → Type 0
-  TrulyAsks k = (¬ PlainTerms t) × Weighs f t.stations t.pages t.bound (sums f t.pages holds) (copies holds 1) (asks k)
+  TrulyAsks = AsksBy f t (sums f t.pages holds) (copies holds)
 
   -- what settling comes to
   abbrev pub TrulySettles : Outcome → Type 0
-  TrulySettles o = Settles f t.stations t.pages t.bound (sums f t.pages holds) (sums f t.pages holds) (copies holds 1) o
+  TrulySettles = SettlesBy f t (sums f t.pages holds) (copies holds)
 
-  module _ (tally : List ℕ) where
-    -- the check closed with this verdict as these outcomes end; the rows of a report are those that are filled
-    abbrev pub ClosedBy : (Outcome → Type 0) → Verdict → Type 0
-    ClosedBy Ends Over = Ends over
-    ClosedBy Ends (Split n) = Ends (split n) ⊎ ((R : Table) × Ends (filled R) × Splits t.stations t.pages R n)
-    ClosedBy Ends Report =
-        (R : Table) × Ends (filled R) × Reports t.stations t.pages R × Same t.stations t.pages (signature_in tally t.pages) R
-
-    -- Weighing and settling did what the rules say of what the stations hold: weighing closed the check, or it named the station that is asked again,
-    -- and settling then closed it.
-    abbrev pub Judged : Stage → Type 0
-    Judged first = Unit {0}
-    Judged (second k) = TrulyAsks k
-    Judged (closed None v) = ClosedBy TrulyWeighs v
-    Judged (closed (Some k) v) = TrulyAsks k × ClosedBy TrulySettles v
+  -- weighing and settling did what the rules say of what the stations hold
+  abbrev pub Judged : (tally : List ℕ) → Stage → Type 0
+  Judged = JudgedBy f t (sums f t.pages holds) (copies holds)
 
 -- the copy of page n at station s differs from what more than half of the stations hold
 abbrev pub Differs : ℕ → Table → (s n : ℕ) → Type 0
 Differs M P s n = (v : ℕ) × Majority M P n v × (P s n ≢ v)
 
--- a report is right: every page has a majority, the tally's rows are every station's signatures, and any list that is not refused names,
--- rising, exactly the pages of its station that differ from the majority
-pub record ReportRight (holds : ℕ → List ℕ) (t : Terms) (tally : List ℕ) : Type 0 where
-  pub decided : Reports t.stations t.pages (copies holds)
-  pub rows : Same t.stations t.pages (signature_in tally t.pages) (copies holds)
+-- a report is right of the table P: every page has a majority, the tally's rows are those of P, and any list that is not refused names, rising, exactly
+-- the pages of its station that differ from the majority
+pub record ReportRight (P : Table) (t : Terms) (tally : List ℕ) : Type 0 where
+  pub decided : Reports t.stations t.pages P
+  pub rows : Same t.stations t.pages (signature_in tally t.pages) P
   pub lists : (s count : ℕ) (before after : List ℕ) → Listing t (Some Report) s tally before (Ok count) after
-      → Listed t.pages (Differs t.stations (copies holds) s) before after count
+      → Listed t.pages (Differs t.stations P s) before after count
 
--- what was found is right: a split page has no majority, and the check is never over
-abbrev pub Right : (ℕ → List ℕ) → Terms → (tally : List ℕ) → Stage → Type 0
-Right holds t tally first = Unit {0}
-Right holds t tally (second k) = Unit {0}
-Right holds t tally (closed again Over) = ⊥
-Right holds t tally (closed again (Split n)) = Page t.pages n × (¬ Decided t.stations (copies holds) n)
-Right holds t tally (closed again Report) = ReportRight holds t tally
+-- what was found is right of P: a split page has no majority, and the check is never over
+abbrev pub Right : (P : Table) → Terms → (tally : List ℕ) → Stage → Type 0
+Right P t tally first = Unit {0}
+Right P t tally (second k) = Unit {0}
+Right P t tally (closed again Over) = ⊥
+Right P t tally (closed again (Split n)) = Page t.pages n × (¬ Decided t.stations P n)
+Right P t tally (closed again Report) = ReportRight P t tally
+
+-- the table P yields all that was told: its row 1 is the own copy, and its sums and signatures are those of the accepted replies
+pub record YieldsAll (f : Ops) (own : List ℕ) (t : Terms) (ks : List Call) (P : Table) : Type 0 where
+  pub codes : (s : ℕ) → Station t.stations s → Codes f t.pages (P s)
+  pub told : AsTold f own t ks (λ s. power_sum f t.pages (P s)) P
+
+-- At every moment of every run whose calls share one tally, weighing and settling did what the rules say of any table that yields all that was told; and if
+-- it has no more stray copies than the bound, or the check is plain, what was found is right of it. Of the stations nothing is supposed.
+abbrev pub RepliesRight : Type 0
+RepliesRight =
+    (f : Ops) → Laws f → Spread f → (own tally : List ℕ) (ks : List Call) (b : Book) (g : Stage) → Run f own tally ks b g →
+    (last : List ℕ) → OneTally tally ks last → (P : Table) → YieldsAll f own b.terms ks P →
+    JudgedBy f b.terms (λ s. power_sum f b.terms.pages (P s)) P last g
+    × (PlainTerms b.terms ⊎ (strays b.terms.stations P b.terms.pages ≤ b.terms.bound) → Right P b.terms last g)
+
+-- Where a check closed with a report, the rows in the tally are such a table, if the own copy is of codes.
+abbrev pub ReportYields : Type 0
+ReportYields =
+    (f : Ops) → Laws f → Spread f → (own : List ℕ) (ks : List Call) (b : Book) (again : Option ℕ) (last : List ℕ) →
+    ClosedRun f own ks b again Report last → Codes f b.terms.pages (entry own) → YieldsAll f own b.terms ks (signature_in last b.terms.pages)
+
+-- What accepted replies alone make of a run.
+abbrev pub ByReplies : Type 0
+ByReplies = RepliesJudged × RepliesRight × RepliesDecide × ReportYields
 
 -- THE PROMISE. In every field, for every own copy, at every moment of every run: the counts are those of the calls. If the farm was steady, weighing and
 -- settling did what the rules say; and if there are no more stray copies than the bound, or the check is plain, what was found is right.
@@ -120,4 +130,4 @@ EveryRun =
     Counted ks b
     × ((holds : ℕ → List ℕ) (last : List ℕ) → FarmHolds f b.terms.stations b.terms.pages holds → Steady f holds own tally ks last →
     Judged f holds b.terms last g
-    × (PlainTerms b.terms ⊎ (strays b.terms.stations (copies holds) b.terms.pages ≤ b.terms.bound) → Right holds b.terms last g))
+    × (PlainTerms b.terms ⊎ (strays b.terms.stations (copies holds) b.terms.pages ≤ b.terms.bound) → Right (copies holds) b.terms last g))

@@ -1,7 +1,7 @@
 -- What the two askings of a check ask for.
 use Rattle.std.specs.Prelude.{◌≡◌, ℕ, ◌+◌, ◌⊎◌}
-use Rattle.link.specs.declared.asked.Asked.{Asked}
-use Rattle.link.specs.declared.asked.Asked.TheVariants.{Sums, Signatures}
+use Rattle.wire.specs.declared.asked.Asked.{Asked}
+use Rattle.wire.specs.declared.asked.Asked.TheVariants.{Sums, Signatures}
 use Rattle.scheme.specs.Askings.{first_sums, all_sums, Plain}
 use Rattle.calls.specs.declared.terms.Terms.{Terms}
 use Rattle.calls.specs.declared.question.Question.{Question}

@@ -3,9 +3,9 @@ use Rattle.std.specs.Prelude.{◌≡◌, ℕ, ◌+◌, ◌-◌, ◌^◌, ◌<◌
 use Rattle.field.specs.Field.{Ops}
 use Rattle.refusal.specs.declared.Refusal.{Refusal}
 use Rattle.refusal.specs.Rules.{Rule, Within, unless, when, Refused, Accepted}
-use Rattle.link.specs.declared.request.Request.{Request}
-use Rattle.link.specs.Requests.{Holds, request_words}
-use Rattle.link.specs.Reading.{reading_reply, Reply}
+use Rattle.wire.specs.declared.request.Request.{Request}
+use Rattle.wire.specs.Requests.{Holds, request_words}
+use Rattle.wire.specs.Reading.{reading_reply, Reply}
 use Rattle.tally.specs.Rows.{tally_size}
 use Rattle.calls.specs.declared.standing.Standing.{Standing}
 use Rattle.calls.specs.declared.standing.Standing.TheVariants.{Free, Out, Heard, Done}

@@ -5,7 +5,7 @@ ghost use Rattle.calls.specs.Questions.{PlainTerms, FirstAsks, SecondAsks};
 
 use crate::question::Question;
 use crate::terms::Terms;
-use link::Asked;
+use wire::Asked;
 
 impl Terms {
     // Sums 1 to this are asked of every station: the bound, and of three stations half as much again.

@@ -8,7 +8,7 @@ ghost use Rattle.calls.specs.Entering.{Placed, RowsOpened, Entered, place_of};
 
 use crate::terms::Terms;
 use field::Field;
-use link::{Asked, Request};
+use wire::{Asked, Request};
 use station::Station;
 use tally::{SUM_COUNT, put_signature, put_sum};
 

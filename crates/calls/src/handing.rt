@@ -1,7 +1,7 @@
 // Handing out slips.
 ghost use Rattle.std.specs.Prelude.{◌≡◌, ◌≤◌, ◌++◌, length, drop, MatchResult};
 ghost use Rattle.refusal.specs.Rules.{Refused, Accepted, Within};
-ghost use Rattle.link.specs.Requests.{request_words};
+ghost use Rattle.wire.specs.Requests.{request_words};
 ghost use Rattle.calls.specs.Slips.{slipping, Asks, Slips};
 
 use crate::book::Book;
@@ -10,7 +10,7 @@ use crate::slip::Slip;
 use crate::stages::Asking;
 use crate::standing::Standing;
 use field::Field;
-use link::Request;
+use wire::Request;
 use refusal::{Buffer, Refusal};
 
 impl<F: Field, P: Asking> Check<F, P> {

@@ -2,7 +2,7 @@
 ghost use Rattle.std.specs.Prelude.{◌≡◌, length, MatchResult};
 ghost use Rattle.refusal.specs.Rules.{Refused, Accepted};
 ghost use Rattle.calls.specs.Opening.{terms_in, Stands, Starts, Opened};
-ghost use Rattle.calls.specs.Promise.{EveryRun};
+ghost use Rattle.calls.specs.Promise.{EveryRun, ByReplies};
 
 use crate::book::Book;
 use crate::check::Check;
@@ -23,7 +23,7 @@ const NUMBER_LIMIT: u32 = (1 << 28) - 1;
 impl<F: Field> Check<F, First> {
     // Opens a check of so many stations and pages, with a bound on stray copies. Clears the tally's rows, and fills row 1 from the shop's own copy.
     // Refused: the number, the stations, the pages, the bound, the own copy's pages, a short tally; then nothing changes.
-    // What holds at every moment of every run of calls from here on is the promise.
+    // What holds at every moment of every run of calls from here on is the promise, and what the accepted replies alone make of it.
     pub fn open<S: Station<F>>(
         number: u32,
         stations: u32,
@@ -34,6 +34,7 @@ impl<F: Field> Check<F, First> {
     ) -> Result<Check<F, First>, Refusal>
         ensures opened { Opened F.Field.ops (S.Station.row own.now) number stations pages bound tally.old result tally.new }
         ensures promise { EveryRun }
+        ensures replies { ByReplies }
     {
         let terms = accept_terms::<F>(number, stations, pages, bound, own.page_count())?;
         if terms.tally_size() > tally.len() {

@@ -2,7 +2,7 @@
 ghost use Rattle.std.specs.Prelude.{◌≤◌};
 ghost use Rattle.refusal.specs.Rules.{Within};
 
-use link::Asked;
+use wire::Asked;
 
 // Sums or signatures, from the first index to the last.
 #[derive(Clone, Copy)]

@@ -7,7 +7,7 @@ use crate::check::Check;
 use crate::slip::{Returned, Slip};
 use crate::standing::Standing;
 use field::Field;
-use link::Request;
+use wire::Request;
 use refusal::Refusal;
 
 impl<F: Field, P> Check<F, P> {

@@ -1,5 +1,5 @@
 // A slip: the token for one request.
-use link::Request;
+use wire::Request;
 
 // It is not `Drop`: it ends only when it is returned, to whichever check.
 pub struct Slip {

@@ -1,7 +1,7 @@
 // Taking replies.
 ghost use Rattle.std.specs.Prelude.{◌≡◌, ◌≤◌, Decides, length, MatchResult};
 ghost use Rattle.refusal.specs.Rules.{Refused, Accepted};
-ghost use Rattle.link.specs.Reading.{Reply};
+ghost use Rattle.wire.specs.Reading.{Reply};
 ghost use Rattle.calls.specs.Slips;
 ghost use Rattle.calls.specs.Slips.{OutHere, taking, Takes};
 
@@ -12,7 +12,7 @@ use crate::slip::Slip;
 use crate::stages::Asking;
 use crate::standing::Standing;
 use field::Field;
-use link::{Request, read_reply};
+use wire::{Request, read_reply};
 use refusal::{Buffer, Refusal};
 
 impl<F: Field, P: Asking> Check<F, P> {

@@ -6,7 +6,7 @@ use crate::counts::Counts;
 use crate::phases::{Closed, Second, Verdict};
 use crate::slip::Slip;
 use field::Field;
-use link::Request;
+use wire::Request;
 
 impl<F: Field, P> Check<F, P> {
     pub fn counts(&self) -> Counts

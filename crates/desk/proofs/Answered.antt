@@ -7,11 +7,11 @@ use Rattle.field.specs.Field.{Ops}
 use Rattle.refusal.specs.declared.Refusal.{Refusal}
 use Rattle.refusal.specs.Numbers.{place}
 use Rattle.refusal.specs.Rules.{Accepted}
-use Rattle.link.specs.declared.request.Request.{Request}
-use Rattle.link.specs.Requests.{request_words, values_due, Same}
-use Rattle.link.specs.Reading.{reading_request, reply_words}
-use Rattle.link.specs.Words.{word}
-use Rattle.link.proofs.ReadBack.{requests_read_back}
+use Rattle.wire.specs.declared.request.Request.{Request}
+use Rattle.wire.specs.Requests.{request_words, values_due, Same}
+use Rattle.wire.specs.Reading.{reading_request, reply_words}
+use Rattle.wire.specs.Words.{word}
+use Rattle.wire.proofs.ReadBack.{requests_read_back}
 use Rattle.station.specs.Serving.{answer, answers, index_limit, InRange, Served}
 
 -- requests that ask the same are answered alike

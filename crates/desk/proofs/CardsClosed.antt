@@ -22,14 +22,15 @@ use Rattle.calls.specs.Closing.{closing, WeighCloses, WeighAsks, WeighEnds, Sett
 use Rattle.calls.specs.Slips.{standing}
 use Rattle.calls.specs.Runs.{Stage, second, closed, weigh, settle, called, weigh_closes, weigh_asks, settle_closes}
 use Rattle.calls.specs.Steady.{copies, sums, FarmHolds}
-use Rattle.calls.specs.Promise.{TrulyWeighs, TrulyAsks, ClosedBy, Judged, Right, EveryRun}
+use Rattle.calls.specs.Promise.{TrulyWeighs, TrulyAsks, Judged, Right, EveryRun}
+use Rattle.calls.specs.Replies.{ClosedAs}
 use Rattle.desk.specs.Copies.{cards}
 use Rattle.desk.specs.Exchange.{Ready, Exchange}
 use Rattle.desk.specs.Going.{Calls, Going, FirstDue, AsksAgain, Checked}
 use Rattle.calls.proofs.Shapes.{Shape}
 use Rattle.calls.proofs.ShapesKept.{shape_kept}
 use Rattle.scheme.proofs.AtMostOne.{one_outcome}
-use Rattle.calls.proofs.TrueEnds.{alike_asks}
+use Rattle.calls.proofs.JudgedBy.{alike_asks}
 use Rattle.calls.proofs.AsksOne.{sums_left}
 use Rattle.desk.proofs.Asked.{by_terms}
 use Rattle.desk.proofs.CardsHeld.{cards_held}
@@ -42,7 +43,7 @@ module _ (f : Ops) (laws : Laws f) (spread : Spread f) (promise : EveryRun) (M N
   held = by_terms (λ M' N' bound'. FarmHolds f M' N' (cards f N words) → FarmHolds f b.terms.stations b.terms.pages (cards f N words)) b.terms 1 M N bound stands (λ h. h) (cards_held f M N words whole laws)
 
   pub judged_right : Judged f (cards f N words) b.terms after g
-      × (Plain M N bound ⊎ (strays M (copies (cards f N words)) N ≤ bound) → Right (cards f N words) b.terms after g)
+      × (Plain M N bound ⊎ (strays M (copies (cards f N words)) N ≤ bound) → Right (copies (cards f N words)) b.terms after g)
   judged_right =
       let r = (promise f laws spread (cards f N words 1) calls.opened calls.calls b g calls.run).1 (cards f N words) after held calls.steady in (
         r.0,
@@ -51,10 +52,10 @@ module _ (f : Ops) (laws : Laws f) (spread : Spread f) (promise : EveryRun) (M N
       )
 
 -- a check closes by an outcome that asks nobody
-pub closing_outcome : (f : Ops) (holds : ℕ → List ℕ) (t : Terms) (tally : List ℕ) (v : Verdict) → ClosedBy f holds t tally (TrulyWeighs f holds t) v
+pub closing_outcome : (f : Ops) (holds : ℕ → List ℕ) (t : Terms) (tally : List ℕ) (v : Verdict) → ClosedAs t tally (TrulyWeighs f holds t) v
     → (o : Outcome) × TrulyWeighs f holds t o × ((k : ℕ) → o ≢ asks k)
-closing_outcome f holds t tally Over x = (over, x, λ k e. cc)
-closing_outcome f holds t tally (Split n) (inl x) = (split n, x, λ k e. cc)
+closing_outcome f holds t tally Over x = (over, x.0, λ k e. cc)
+closing_outcome f holds t tally (Split n) (inl x) = (split n, x.0, λ k e. cc)
 closing_outcome f holds t tally (Split n) (inr x) = (filled x.0, x.1, λ k e. cc)
 closing_outcome f holds t tally Report x = (filled x.0, x.1, λ k e. cc)
 
@@ -88,7 +89,7 @@ module _ (f : Ops) (laws : Laws f) (spread : Spread f) (promise : EveryRun) (M N
             calls = weigh tally after ∷ so.calls;
             opens = so.opens;
             run = called so.run (weigh_closes w);
-            steady = (refl, so.steady);
+            steady = (so.steady.0, (refl, so.steady.1), (tt, so.steady.2));
           }
 
       stands_closed : Stands b'.terms 1 M N bound
@@ -138,7 +139,7 @@ module _ (f : Ops) (laws : Laws f) (spread : Spread f) (promise : EveryRun) (M N
             calls = weigh tally asked ∷ so.calls;
             opens = so.opens;
             run = called so.run (weigh_asks w);
-            steady = (refl, so.steady);
+            steady = (so.steady.0, (refl, so.steady.1), (tt, so.steady.2));
           }
 
       shape : Shape f b' (second k)
@@ -206,7 +207,9 @@ module _ (f : Ops) (laws : Laws f) (spread : Spread f) (promise : EveryRun) (M N
               calls = settle told after ∷ three_calls x so.calls;
               opens = so.opens;
               run = called (run_longer x (cards f N words 1) so.opened so.calls refl so.run) (settle_closes s);
-              steady = (refl, steady_longer x (cards f N words 1) so.opened so.calls (cards f N words) refl so.steady);
+              steady =
+                  let asked = steady_longer x (cards f N words 1) so.opened so.calls (cards f N words) refl so.steady in
+                  (asked.0, (refl, asked.1), (tt, asked.2));
             }
 
         rest_taken : d.counts.taken ≡ (M - 1) * first_asked.0 + (all_sums N bound - first_sums M bound)

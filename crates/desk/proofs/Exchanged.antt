@@ -1,8 +1,8 @@
 -- What an exchange with a station leaves: its reply is in, the counts are one slip further, and the run is three calls longer.
 use Rattle.std.proofs.Common.{◌≡◌, ℕ, ◌+◌, ◌<◌, ◌≢◌, List, ◌∷◌, length, Ok, Option, sym, refl, ap, ◌∙◌, arith}
 use Rattle.field.specs.Field.{Ops}
-use Rattle.link.specs.Reading.{reply_words}
-use Rattle.link.specs.Requests.{values_due}
+use Rattle.wire.specs.Reading.{reply_words}
+use Rattle.wire.specs.Requests.{values_due}
 use Rattle.station.specs.Serving.{answers}
 use Rattle.calls.specs.declared.book.Book.{Book}
 use Rattle.calls.specs.declared.standing.Standing.TheVariants.{Out, Heard, Done}
@@ -61,8 +61,6 @@ module _ {f : Ops} {row : List ℕ} {only : Option ℕ} {s : ℕ} {b : Book} {be
         called (called (called run (slips only asks x.slips)) (takes only asks x.takes)) (returns x.returns)
 
     pub steady_longer : (holds : ℕ → List ℕ) → holds s ≡ row → Steady f holds own opened ks before → Steady f holds own opened (three_calls ks) after
-    steady_longer holds is steady = (
-      x.replies ∙ ap (λ row. reply_words x.slip.request (answers f row x.slip.request)) (sym (ap holds station_is ∙ is)),
-      refl,
-      steady,
-    )
+    steady_longer holds is steady =
+        let words = x.replies ∙ ap (λ row. reply_words x.slip.request (answers f row x.slip.request)) (sym (ap holds station_is ∙ is)) in
+        (steady.0, (refl, steady.1), (tt, (words, (tt, steady.2))))

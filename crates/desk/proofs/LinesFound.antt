@@ -11,7 +11,7 @@ use Rattle.calls.specs.declared.terms.Terms.{Terms}
 use Rattle.calls.specs.declared.phases.Verdict.{Verdict}
 use Rattle.calls.specs.declared.phases.Verdict.TheVariants.{Report, Split, Over}
 use Rattle.calls.specs.Runs.{closed}
-use Rattle.calls.specs.Steady.{copies}
+use Rattle.calls.specs.Steady.{copies, sums}
 use Rattle.calls.proofs.RulesCome.{Ended, rules_come}
 use Rattle.calls.specs.Promise.{Right, Differs}
 use Rattle.calls.proofs.BadPages.{lists_as, bad_differs, differs_bad}
@@ -27,7 +27,7 @@ lines_as M N Q P to from text (pages, lists, is) =
     (pages, λ s station. lists_as N (Q s) (P s) (λ n p. to s n station p) (λ n p. from s n station p) (pages s) (lists s station), is)
 
 module _ (f : Ops) (holds : ℕ → List ℕ) (t : Terms) (tally : List ℕ) (text : List ℕ) where
-  pub rules_found : (v : Verdict) → Ended f holds t tally v → VerdictText t.stations t.pages tally v text
+  pub rules_found : (v : Verdict) → Ended f t (sums f t.pages holds) (copies holds) tally v → VerdictText t.stations t.pages tally v text
       → RulesFind f t.stations t.pages t.bound holds text
   rules_found Over judged is = inl (judged, is)
   rules_found (Split n) judged is = inr (inl (n, judged, is))
@@ -40,7 +40,7 @@ module _ (f : Ops) (holds : ℕ → List ℕ) (t : Terms) (tally : List ℕ) (te
             (λ s n a p. bad_same t.stations t.pages (signature_in tally t.pages) R same n p s a) text lines,
       ))
 
-  pub truth_found : (again : Option ℕ) (v : Verdict) → Right holds t tally (closed again v) → VerdictText t.stations t.pages tally v text → TrueFind t.stations t.pages holds text
+  pub truth_found : (again : Option ℕ) (v : Verdict) → Right (copies holds) t tally (closed again v) → VerdictText t.stations t.pages tally v text → TrueFind t.stations t.pages holds text
   truth_found again Over right is = absurd right
   truth_found again (Split n) right is = inl (n, right.0, right.1, is)
   truth_found again Report right lines =
@@ -62,7 +62,7 @@ farm_text M N bound signatures words same before b v after checked body told out
       count = b.counts.taken;
       text = is;
       taken = checked.taken;
-      rules = by_terms (λ M N' bound. RulesFind small M N' bound holds body) b.terms 1 M N bound checked.terms (rules_found small holds b.terms after body v (rules_come small holds b.terms after checked.again v checked.judged) lines);
+      rules = by_terms (λ M N' bound. RulesFind small M N' bound holds body) b.terms 1 M N bound checked.terms (rules_found small holds b.terms after body v (rules_come small b.terms (sums small b.terms.pages holds) (copies holds) after checked.again v checked.judged) lines);
       true = λ given.
           by_terms (λ M N' bound. TrueFind M N' holds body) b.terms 1 M N bound checked.terms (truth_found small holds b.terms after body checked.again v (checked.right given) lines);
     })

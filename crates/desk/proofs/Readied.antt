@@ -7,8 +7,8 @@ use Rattle.field.specs.Sums.{entry}
 use Rattle.refusal.specs.declared.Refusal.{Refusal}
 use Rattle.refusal.specs.Numbers.{place}
 use Rattle.refusal.specs.Rules.{Refused, Accepted}
-use Rattle.link.specs.Requests.{request_words, values_due}
-use Rattle.link.specs.Reading.{reading_reply, reply_words}
+use Rattle.wire.specs.Requests.{request_words, values_due}
+use Rattle.wire.specs.Reading.{reading_reply, reply_words}
 use Rattle.station.specs.Serving.{answers, InRange, index_limit, EndsAgree, Served}
 use Rattle.tally.specs.Rows.{tally_size}
 use Rattle.calls.specs.declared.book.Book.{Book}

@@ -3,7 +3,7 @@ use Rattle.std.proofs.Common.{◌≡◌, ℕ, ◌+◌, ◌-◌, ◌*◌, ◌≤�
 use native.Mathlib.Decide.{ℕ_discrete}
 use Rattle.field.specs.Field.{Ops}
 use Rattle.refusal.specs.Rules.{Within}
-use Rattle.link.specs.Requests.{values_due}
+use Rattle.wire.specs.Requests.{values_due}
 use Rattle.tally.specs.Rows.{tally_size}
 use Rattle.calls.specs.declared.book.Book.{Book}
 use Rattle.calls.specs.declared.standing.Standing.TheVariants.{Free, Done}
@@ -90,7 +90,7 @@ going_starts f M N bound words before own is b tally opens = record {
     calls = [];
     opens = here;
     run = opened here;
-    steady = (refl, refl);
+    steady = (refl, refl, tt);
   };
   terms = opens.terms;
   question = opens.starts.question;

@@ -2,7 +2,7 @@
 use Rattle.std.specs.Prelude.{◌≡◌, ℕ, ◌<◌, ◌≤◌, ◌-◌, ◌^◌, List, Ok, Option}
 use Rattle.field.specs.Field.{Ops}
 use Rattle.refusal.specs.Rules.{Within}
-use Rattle.link.specs.Reading.{reply_words}
+use Rattle.wire.specs.Reading.{reply_words}
 use Rattle.station.specs.Serving.{answers, index_limit}
 use Rattle.tally.specs.Rows.{tally_size}
 use Rattle.calls.specs.declared.book.Book.{Book}

@@ -60,4 +60,4 @@ module _ (M N bound : ℕ) where
       pub by_calls : Calls f M N bound words before b (closed again v) after
       pub taken : Taken b.counts.taken
       pub judged : Judged f (cards f N words) b.terms after (closed again v)
-      pub right : Plain M N bound ⊎ (strays M (copies (cards f N words)) N ≤ bound) → Right (cards f N words) b.terms after (closed again v)
+      pub right : Plain M N bound ⊎ (strays M (copies (cards f N words)) N ≤ bound) → Right (copies (cards f N words)) b.terms after (closed again v)

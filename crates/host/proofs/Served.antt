@@ -5,7 +5,7 @@ use Rattle.refusal.specs.declared.Refusal.{Refusal}
 use Rattle.refusal.specs.Numbers.{number, place}
 use Rattle.refusal.specs.Rules.{Accepted}
 use Rattle.page.specs.Pages.{page_count, cutting}
-use Rattle.link.specs.Reading.{reply_words}
+use Rattle.wire.specs.Reading.{reply_words}
 use Rattle.station.specs.Kinds.{making_card, card_row, job_row}
 use Rattle.station.specs.Serving.{answers, Served}
 use Rattle.host.specs.Ending.{Lent, Counted, lent}

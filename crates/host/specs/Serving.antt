@@ -3,9 +3,9 @@ use Rattle.std.specs.Prelude.{◌≡◌, ◌+◌, ◌⊎◌, ℕ, List, length}
 use Rattle.field.specs.Field.{Ops}
 use Rattle.refusal.specs.Rules.{Accepted}
 use Rattle.page.specs.Pages.{page_count, cutting}
-use Rattle.link.specs.declared.request.Request.{Request}
-use Rattle.link.specs.Requests.{request_words, values_due}
-use Rattle.link.specs.Reading.{reading_request, reply_words}
+use Rattle.wire.specs.declared.request.Request.{Request}
+use Rattle.wire.specs.Requests.{request_words, values_due}
+use Rattle.wire.specs.Reading.{reading_request, reply_words}
 use Rattle.station.specs.Kinds.{making_card, card_row, job_row}
 use Rattle.station.specs.Serving.{serving, answers}
 use Rattle.host.specs.Ending.{Lent, Counted, Front, Fills, Refuses}

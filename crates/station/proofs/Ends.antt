@@ -4,11 +4,11 @@ use Rattle.std.proofs.lemmas.List.FromFn.{length-map-range_with_len, get_or-map-
 use Rattle.field.specs.Field.{Ops, Laws}
 use Rattle.field.specs.Sums.{entry}
 use Rattle.field.proofs.Laws.{total_code}
-use Rattle.link.specs.declared.asked.Asked.{Asked}
-use Rattle.link.specs.declared.asked.Asked.TheVariants.{Sums, Signatures}
-use Rattle.link.specs.declared.request.Request.{Request}
-use Rattle.link.specs.Requests.{values_due}
-use Rattle.link.proofs.ReadBack.{replies_read_back}
+use Rattle.wire.specs.declared.asked.Asked.{Asked}
+use Rattle.wire.specs.declared.asked.Asked.TheVariants.{Sums, Signatures}
+use Rattle.wire.specs.declared.request.Request.{Request}
+use Rattle.wire.specs.Requests.{values_due}
+use Rattle.wire.proofs.ReadBack.{replies_read_back}
 use Rattle.station.specs.Serving.{answer, answers, EndsAgree}
 
 module _ (f : Ops) (l : Laws f) (row : List ℕ) (codes : (k : ℕ) → entry row k < f.size) where

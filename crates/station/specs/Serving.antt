@@ -5,12 +5,12 @@ use Rattle.field.specs.Field.{Ops, Laws}
 use Rattle.field.specs.Sums.{entry, power_sum}
 use Rattle.refusal.specs.declared.Refusal.{Refusal}
 use Rattle.refusal.specs.Rules.{Rule, Within, unless, Accepted, Refused}
-use Rattle.link.specs.declared.asked.Asked.{Asked}
-use Rattle.link.specs.declared.asked.Asked.TheVariants.{Sums, Signatures}
-use Rattle.link.specs.declared.request.Request.{Request}
-use Rattle.link.specs.Words.{word, value_of}
-use Rattle.link.specs.Requests.{request_words, values_due}
-use Rattle.link.specs.Reading.{reading_request, reading_reply, Reply, reply_words}
+use Rattle.wire.specs.declared.asked.Asked.{Asked}
+use Rattle.wire.specs.declared.asked.Asked.TheVariants.{Sums, Signatures}
+use Rattle.wire.specs.declared.request.Request.{Request}
+use Rattle.wire.specs.Words.{word, value_of}
+use Rattle.wire.specs.Requests.{request_words, values_due}
+use Rattle.wire.specs.Reading.{reading_request, reading_reply, Reply, reply_words}
 
 -- the last index that may be asked for
 abbrev pub index_limit : Asked → List ℕ → ℕ

@@ -1,13 +1,13 @@
 // Serving: a request's words in, a reply's words out, once for every station.
 ghost use Rattle.std.specs.Prelude.{◌≡◌, ◌+◌, ◌<◌, ◌≤◌, ◌++◌, map, length, take, drop, MatchResult};
 ghost use Rattle.refusal.specs.Rules.{Refused, Accepted};
-ghost use Rattle.link.specs.Words;
-ghost use Rattle.link.specs.Requests.{request_words, values_due};
+ghost use Rattle.wire.specs.Words;
+ghost use Rattle.wire.specs.Requests.{request_words, values_due};
 ghost use Rattle.station.specs.Serving.{serving, index_limit, answer, answers, InRange, ServedRequest, Served};
 
 use crate::trait_station::{SUM_LIMIT, Station};
 use field::Field;
-use link::{Asked, Request};
+use wire::{Asked, Request};
 use refusal::{Buffer, Refusal};
 
 // Answers a request to the station with this number: how many words of the reply are written.
@@ -75,7 +75,7 @@ fn write_answers<F: Field, S: Station<F>>(station: &S, request: &Request, values
 {
     for (k, value) in values.iter_mut().enumerate() {
         let answer = ask::<F, S>(station, request.asked, request.first as usize + k);
-        *value = link::value_word(answer);
+        *value = wire::value_word(answer);
     }
 }
 

@@ -1,5 +1,5 @@
 // The two ends of the link agree.
-ghost use Rattle.link.specs.declared.request.Request.{Request};
+ghost use Rattle.wire.specs.declared.request.Request.{Request};
 ghost use Rattle.station.specs.Serving.{EndsMeet, EndsAgree};
 
 use crate::trait_station::Station;

@@ -22,7 +22,7 @@ mod tests {
     use crate::{arithmetic, cards_written, differences, jobs, replies, serving};
     use binary::{Small, Wide};
     use field::Field;
-    use link::{Asked, Request};
+    use wire::{Asked, Request};
     use prime::Prime;
     use refusal::Refusal;
     use solve::Entry;
@@ -165,7 +165,7 @@ mod tests {
             [0x10000005, 0x20000004, 0x30000002, 0x50000003]
         );
         for case in &replies::CASES {
-            let read = link::read_reply::<Prime>(&request, case.reply);
+            let read = wire::read_reply::<Prime>(&request, case.reply);
             assert_eq!(rt; read.map_err(told), case.read);
         }
     }

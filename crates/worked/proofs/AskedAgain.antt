@@ -17,7 +17,7 @@ use Rattle.calls.specs.declared.phases.Verdict.{Verdict}
 use Rattle.calls.specs.Opening.{Stands}
 use Rattle.calls.specs.Promise.{Judged}
 use Rattle.calls.specs.Runs.{closed}
-use Rattle.calls.proofs.TrueEnds.{alike_asks}
+use Rattle.calls.proofs.JudgedBy.{alike_asks}
 use Rattle.desk.proofs.Asked.{by_terms}
 use Rattle.desk.proofs.CardsClosed.{closing_outcome}
 use Rattle.calls.specs.Steady.{copies, sums}

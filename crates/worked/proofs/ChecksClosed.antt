@@ -43,7 +43,7 @@ module _ (before after : List ℕ) (b : Book) where
   pub one_bad_reports : (v : Verdict) → Checked 4 3 1 prime one_bad before b v after → v ≡ Report
   one_bad_reports v checked = by checked.again v checked.terms (checked.right (inr one_stray))
     where
-      by : (again : Option ℕ) (v : Verdict) → Stands b.terms 1 4 3 1 → Right (cards prime 3 one_bad) b.terms after (closed again v) → v ≡ Report
+      by : (again : Option ℕ) (v : Verdict) → Stands b.terms 1 4 3 1 → Right (copies (cards prime 3 one_bad)) b.terms after (closed again v) → v ≡ Report
       by again Report stands right = refl
       by again (Split n) stands right =
           let r = by_terms (λ M N bound. Page N n × (¬ Decided M (copies (cards prime 3 one_bad)) n)) b.terms 1 4 3 1 stands right in
@@ -53,7 +53,7 @@ module _ (before after : List ℕ) (b : Book) where
   pub two_halves_splits : (v : Verdict) → Checked 4 3 2 prime two_halves before b v after → v ≡ Split 1
   two_halves_splits v checked = by checked.again v checked.terms (checked.right (inr two_stray))
     where
-      by : (again : Option ℕ) (v : Verdict) → Stands b.terms 1 4 3 2 → Right (cards prime 3 two_halves) b.terms after (closed again v) → v ≡ Split 1
+      by : (again : Option ℕ) (v : Verdict) → Stands b.terms 1 4 3 2 → Right (copies (cards prime 3 two_halves)) b.terms after (closed again v) → v ≡ Split 1
       by again Report stands right =
           let r = by_terms (λ M N bound. Reports M N (copies (cards prime 3 two_halves))) b.terms 1 4 3 2 stands right.decided in
           absurd (two_halves_undecided (r 1 (omega arith, omega arith)))

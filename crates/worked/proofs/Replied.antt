@@ -3,12 +3,12 @@ use Rattle.std.proofs.Common.{◌≡◌, ℕ, suc, ◌-◌, List, [], ◌∷◌,
 use Rattle.std.specs.List.{range_with_len}
 use Rattle.field.specs.Field.{Ops}
 use Rattle.prime.specs.Prime.{prime}
-use Rattle.link.specs.declared.asked.Asked.{Asked}
-use Rattle.link.specs.declared.asked.Asked.TheVariants.{Sums}
-use Rattle.link.specs.declared.request.Request.{Request}
-use Rattle.link.specs.Words.{word}
-use Rattle.link.specs.Requests.{Holds, asked_kind}
-use Rattle.link.specs.Reading.{reply_words}
+use Rattle.wire.specs.declared.asked.Asked.{Asked}
+use Rattle.wire.specs.declared.asked.Asked.TheVariants.{Sums}
+use Rattle.wire.specs.declared.request.Request.{Request}
+use Rattle.wire.specs.Words.{word}
+use Rattle.wire.specs.Requests.{Holds, asked_kind}
+use Rattle.wire.specs.Reading.{reply_words}
 use Rattle.station.specs.Serving.{answer, answers}
 use Rattle.desk.specs.Copies.{cards}
 use Rattle.worked.specs.Checks.{one_bad}

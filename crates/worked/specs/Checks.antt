@@ -2,10 +2,10 @@
 use Rattle.std.specs.Prelude.{◌≡◌, ℕ, ◌≤◌, List, [], ◌∷◌, Some, Option}
 use Rattle.field.specs.Field.{Ops}
 use Rattle.prime.specs.Prime.{prime}
-use Rattle.link.specs.declared.asked.Asked.TheVariants.{Sums}
-use Rattle.link.specs.declared.request.Request.{Request}
-use Rattle.link.specs.Requests.{Holds}
-use Rattle.link.specs.Reading.{reply_words}
+use Rattle.wire.specs.declared.asked.Asked.TheVariants.{Sums}
+use Rattle.wire.specs.declared.request.Request.{Request}
+use Rattle.wire.specs.Requests.{Holds}
+use Rattle.wire.specs.Reading.{reply_words}
 use Rattle.station.specs.Serving.{answers}
 use Rattle.scheme.specs.Askings.{Plain}
 use Rattle.scheme.specs.Farm.{strays}

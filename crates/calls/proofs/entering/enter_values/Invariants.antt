@@ -1,5 +1,5 @@
 use Rattle.std.proofs.Common.{◌+◌, ◌-◌, get_or}
-use Rattle.link.specs.Words.{value_of}
+use Rattle.wire.specs.Words.{value_of}
 use Rattle.calls.specs.Entering.{Placed, place_of}
 use Rattle.calls.proofs.entering.enter_values.Given as goal
 

@@ -3,9 +3,9 @@ use Rattle.std.proofs.lemmas.Grind.{same_number_lists}
 use Rattle.std.proofs.lemmas.List.{length-map, get_or-map}
 use Rattle.std.proofs.lemmas.List.FromFn.{length-map-range_with_len, get_or-map-range_with_len}
 use Rattle.field.specs.Field.{Ops}
-use Rattle.link.specs.declared.request.Request.{Request}
-use Rattle.link.specs.Requests.{values_due}
-use Rattle.link.specs.Words.{word}
+use Rattle.wire.specs.declared.request.Request.{Request}
+use Rattle.wire.specs.Requests.{values_due}
+use Rattle.wire.specs.Words.{word}
 use Rattle.station.specs.Serving.{answer, answers}
 use Rattle.station.proofs.serving.write_answers.Goals as goal
 

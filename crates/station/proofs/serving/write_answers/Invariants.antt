@@ -1,5 +1,5 @@
 use Rattle.std.proofs.Common.{◌≡◌, ℕ, ◌+◌, ◌<◌, get_or}
-use Rattle.link.specs.Words.{word}
+use Rattle.wire.specs.Words.{word}
 use Rattle.station.specs.Serving.{answer}
 use Rattle.station.proofs.serving.write_answers.Given as goal
 

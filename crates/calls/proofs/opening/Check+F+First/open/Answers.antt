@@ -1,4 +1,4 @@
-use Rattle.calls.proofs.EveryRun.{every_run}
+use Rattle.calls.proofs.EveryRun.{every_run, by_replies}
 use Rattle.calls.proofs.opening.Check+F+First.open.Goals as goal
 
 pub returns-in_err-terms-clause-promise : goal.returns-in_err-terms-clause-promise
@@ -9,3 +9,12 @@ returns-then-tally_size-tally-clause-promise g c = every_run
 
 pub returns-clause-promise : goal.returns-clause-promise
 returns-clause-promise g c = every_run
+
+pub returns-in_err-terms-clause-replies : goal.returns-in_err-terms-clause-replies
+returns-in_err-terms-clause-replies g c = by_replies
+
+pub returns-then-tally_size-tally-clause-replies : goal.returns-then-tally_size-tally-clause-replies
+returns-then-tally_size-tally-clause-replies g c = by_replies
+
+pub returns-clause-replies : goal.returns-clause-replies
+returns-clause-replies g c = by_replies

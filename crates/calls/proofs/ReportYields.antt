@@ -1,0 +1,129 @@
+-- Rows that a check closed on yield all that was told.
+use Rattle.std.proofs.Common.{◌≡◌, ℕ, ◌<◌, ◌≤◌, ◌⊎◌, List, Some, None, sym, ◌∙◌, subst, inl, inr, arith}
+use native.Mathlib.Decide.{ℕ_discrete}
+use Rattle.field.specs.Field.{Ops, Laws, Spread, page_limit}
+use Rattle.field.specs.Sums.{entry, power_sum}
+use Rattle.algebra.specs.Vectors.{Page, Codes}
+use Rattle.refusal.specs.Rules.{Within}
+use Rattle.wire.specs.declared.asked.Asked.{Asked}
+use Rattle.wire.specs.declared.asked.Asked.TheVariants.{Sums, Signatures}
+use Rattle.scheme.specs.Farm.{Table, Station, Same}
+use Rattle.scheme.specs.Askings.{first_sums, all_sums, filled}
+use Rattle.scheme.specs.Weighing.{Weighs}
+use Rattle.scheme.specs.Settling.{Settles}
+use Rattle.scheme.proofs.Codes.{power_sum_same, sum_code}
+use Rattle.scheme.proofs.Rows.{coded}
+use Rattle.tally.specs.Rows.{sum_in, signature_in}
+use Rattle.calls.specs.declared.terms.Terms.{Terms}
+use Rattle.calls.specs.declared.phases.Verdict.TheVariants.{Report}
+use Rattle.calls.specs.Questions.{PlainTerms}
+use Rattle.calls.specs.Closing.{WeighsBy}
+use Rattle.calls.specs.Runs.{closed, Call}
+use Rattle.calls.specs.Replies.{Replied, AsTold, FirstReplied, FirstAsked, OnlyReplied, AsksBy, SettlesBy}
+use Rattle.calls.specs.Promise.{YieldsAll, ReportYields}
+use Rattle.calls.proofs.FirstSums.{firsts_among}
+use Rattle.calls.proofs.FilledRows.{filled_firsts, filled_asked}
+use Rattle.calls.proofs.ShapesKept.{shape_kept}
+use Rattle.calls.proofs.RepliesJudged.{replies_judged}
+
+module _ (f : Ops) (l : Laws f) (spread : Spread f) (own : List ℕ) (t : Terms) (pages : Within 1 (page_limit f) t.pages) (ks : List Call) (T P : Table)
+    (told : AsTold f own t ks T P) (codes : Codes f t.pages (entry own))
+    (small : (a : Asked) (s i v : ℕ) → Replied ks a s i v → v < f.size) (firsts : FirstReplied ks t) (R : Table) (same : Same t.stations t.pages P R) where
+  row_codes : Codes f t.pages (P 1)
+  row_codes n p = subst (λ x. x < f.size) (sym (told.own_row n p)) (codes n p)
+
+  row_sums : (j : ℕ) → power_sum f t.pages (P 1) j ≡ power_sum f t.pages (entry own) j
+  row_sums j = power_sum_same f t.pages (P 1) (entry own) told.own_row j
+
+  -- ── a plain check
+  module _ (plain : PlainTerms t) (due : (s j v : ℕ) → Replied ks Sums s j v → FirstAsked t Sums j) where
+    plain_codes : (s : ℕ) → Station t.stations s → Codes f t.pages (P s)
+    plain_codes s st n p = elim (ℕ_discrete s 1) [
+      | yes e ↦ subst (λ s. P s n < f.size) (sym e) (row_codes n p)
+      | no d ↦ elim (firsts s (omega arith)) [
+        | inl x ↦ let r = x.1 n p in subst (λ x. x < f.size) (sym (told.signatures s n r.0 r.1)) (small Signatures s n r.0 r.1)
+        | inr x ↦ absurd (x.0 plain)
+      ]
+    ]
+
+    plain_yields : YieldsAll f own t ks P
+    plain_yields = record {
+      codes = plain_codes;
+      told = record {
+        own_row = told.own_row;
+        own_sums = λ j p. row_sums j;
+        sums = λ s j v r. absurd (elim (due s j v r) [ inl x ↦ (let a = x.1 in cc) | inr x ↦ x.0 plain ]);
+        signatures = told.signatures;
+      };
+    }
+
+  -- ── any other
+  module _ (not : ¬ PlainTerms t) where
+    own_sums : (j : ℕ) → Page (all_sums t.pages t.bound) j → T 1 j ≡ power_sum f t.pages (P 1) j
+    own_sums j p = told.own_sums j p ∙ sym (row_sums j)
+
+    among : first_sums t.stations t.bound ≤ all_sums t.pages t.bound
+    among = firsts_among t.stations t.pages t.bound t.stations_in.0 t.bound_in.0 not
+
+    sums_small : (s j : ℕ) → Station t.stations s → Page (first_sums t.stations t.bound) j → T s j < f.size
+    sums_small s j st p = elim (ℕ_discrete s 1) [
+      | yes e ↦ subst (λ s. T s j < f.size) (sym e) (subst (λ x. x < f.size) (sym (own_sums j (omega (arith, p, among)))) (sum_code l t.pages (P 1) j))
+      | no d ↦ elim (firsts s (omega arith)) [
+        | inl x ↦ absurd (not x.0)
+        | inr x ↦ let r = x.1 j p in subst (λ x. x < f.size) (sym (told.sums s j r.0 r.1)) (small Sums s j r.0 r.1)
+      ]
+    ]
+
+    module _ (ends : Weighs f t.stations t.pages t.bound T (P 1) (filled R) ⊎ Settles f t.stations t.pages t.bound T T (P 1) (filled R)) where
+      filled_codes : (s : ℕ) → Station t.stations s → Codes f t.pages (P s)
+      filled_codes s st n p =
+          subst (λ x. x < f.size) (sym (same s n st p)) (coded f l t.stations t.pages t.bound T T (P 1) row_codes R ends s st n p)
+
+      first_yields : (s j : ℕ) → Station t.stations s → Page (first_sums t.stations t.bound) j → power_sum f t.pages (P s) j ≡ T s j
+      first_yields s j st p =
+          power_sum_same f t.pages (P s) (R s) (λ n q. same s n st q) j
+          ∙ filled_firsts f l t.stations t.pages t.bound t.stations_in.0 T (P 1) own_sums among R sums_small ends s j st p
+
+      filled_yields : ((s j v : ℕ) → Replied ks Sums s j v → power_sum f t.pages (P s) j ≡ v) → YieldsAll f own t ks P
+      filled_yields sums = record {
+        codes = filled_codes;
+        told = record { own_row = told.own_row; own_sums = λ j p. row_sums j; sums = sums; signatures = told.signatures };
+      }
+
+      first_sum : (s j v : ℕ) → Within 2 t.stations s → Replied ks Sums s j v → FirstAsked t Sums j → power_sum f t.pages (P s) j ≡ v
+      first_sum s j v w r (inl x) = absurd (let a = x.1 in cc)
+      first_sum s j v w r (inr x) = first_yields s j (omega (arith, w)) x.2 ∙ told.sums s j v r
+
+    asked_sum : (k : ℕ) → AsksBy f t T P k → SettlesBy f t T P (filled R) → Within 2 t.stations k → (j v : ℕ) → Replied ks Sums k j v
+        → Page (all_sums t.pages t.bound) j → power_sum f t.pages (P k) j ≡ v
+    asked_sum k a x w j v r p =
+        power_sum_same f t.pages (P k) (R k) (λ n q. same k n (omega (arith, w)) q) j
+        ∙ filled_asked f l t.stations t.pages t.bound t.stations_in.0 T (P 1) own_sums among R spread (omega (arith, pages.1)) k a.1 x j p
+        (subst (λ x. x < f.size) (sym (told.sums k j v r)) (small Sums k j v r))
+        ∙ told.sums k j v r
+
+  weighed_yields : OnlyReplied f ks t (closed None Report) → WeighsBy f t T P (filled R) → YieldsAll f own t ks P
+  weighed_yields only (inl x) = plain_yields x.2 (λ s j v r. (only Sums s j v r).1)
+  weighed_yields only (inr (not, w)) = filled_yields not (inl w) (λ s j v r. let o = only Sums s j v r in first_sum not (inl w) s j v o.0 r o.1)
+
+  settled_yields : (k : ℕ) → OnlyReplied f ks t (closed (Some k) Report) → AsksBy f t T P k → SettlesBy f t T P (filled R) → YieldsAll f own t ks P
+  settled_yields k only a x = filled_yields a.0 (inr x) (λ s j v r. let o = only Sums s j v r in elim o.1 [
+    | inl y ↦ first_sum a.0 (inr x) s j v o.0 r y
+    | inr y ↦
+        subst (λ s. Within 2 t.stations s → Replied ks Sums s j v → power_sum f t.pages (P s) j ≡ v) y.0
+        (λ w r. asked_sum a.0 k a x w j v r (omega (arith, y.2))) o.0 r
+  ])
+
+pub report_yields : ReportYields
+report_yields f l spread own ks b None last x codes =
+    let r = replies_judged f l spread own x.opened ks b (closed None Report) x.run in
+    let at = r.2 last x.one in
+    let closes = at.1 (sum_in last b.terms.pages) (signature_in last b.terms.pages) at.0 in
+    weighed_yields f l spread own b.terms (shape_kept f l spread own x.opened ks b (closed None Report) x.run).pages ks (sum_in last b.terms.pages)
+    (signature_in last b.terms.pages) at.0 codes (λ a s i v y. (r.1 a s i v y).2) r.0 closes.0 closes.2 r.1 closes.1
+report_yields f l spread own ks b (Some k) last x codes =
+    let r = replies_judged f l spread own x.opened ks b (closed (Some k) Report) x.run in
+    let at = r.2 last x.one in
+    let closes = at.1 (sum_in last b.terms.pages) (signature_in last b.terms.pages) at.0 in
+    settled_yields f l spread own b.terms (shape_kept f l spread own x.opened ks b (closed (Some k) Report) x.run).pages ks (sum_in last b.terms.pages)
+    (signature_in last b.terms.pages) at.0 codes (λ a s i v y. (r.1 a s i v y).2) r.0.0 closes.1.0 closes.1.2 k r.1 closes.0 closes.1.1
