@@ -5,66 +5,71 @@ ghost use Rattle.std.specs.Prelude.{◌≡◌, ◌++◌, Some, codes, decimal};
 ghost use Rattle.refusal.specs.Numbers;
 ghost use Rattle.refusal.specs.Numbers.{refusal_text};
 
-use std::fmt;
+mod theorems;
 
+use std::fmt;
+pub use theorems::{Ruled, exclusive};
+
+/// Why a call did nothing. Operators and other programs are told its number and its place (docs/RULES.md, "Refusals").
 #[derive(Clone, Copy, PartialEq, Eq, Debug)]
 pub enum Refusal {
-    // A number is outside its limits.
+    /// 1: a number is outside its limits; the place says which number.
     Size(Limit),
-    // A buffer is too short for what is written there.
+    /// 2: a buffer is too short for what is written there; the place says which buffer.
     Cramped(Buffer),
-    // The call knows no such station. The place of this and the next four, and of `Stray`, is the station.
+    /// 3: the call knows no such station. The place of this and of 4 to 7 and 10 is the station.
     Unknown(u32),
-    // The station's slip is out.
+    /// 4: the station's slip is out.
     Out(u32),
-    // The station has answered in this asking.
+    /// 5: the station has answered in this asking.
     In(u32),
-    // Another station is asked in the second asking.
+    /// 6: another station is asked in the second asking.
     Unasked(u32),
-    // The station's reply is lacking.
+    /// 7: the station's reply is lacking.
     Missing(u32),
-    // A word is missing, surplus, of a wrong kind or no code; the place is its position, from 1.
+    /// 8: a word is missing, surplus, of a wrong kind or no code; the place is its position, from 1.
     Garbled(usize),
-    // A header word is not the request's; the place is its position.
+    /// 9: a header word is not the request's; the place is its position, from 1.
     Foreign(usize),
-    // No slip with this request is out here.
+    /// 10: no slip with this request is out here.
     Stray(u32),
-    // An index is outside its range, or the first is above the last; or no more slips can be counted.
+    /// 11, place 0: an index is outside its range, or the first is above the last; or no more slips can be counted.
     Range,
-    // There is no report to list.
+    /// 12, place 0: there is no report to list.
     Silent,
 }
 
-// The number that is outside its limits.
+/// The number that is outside its limits.
 #[derive(Clone, Copy, PartialEq, Eq, Debug)]
 pub enum Limit {
-    // the number of a check
+    /// place 1: the number of a check
     Number,
-    // how many stations a farm has
+    /// place 2: how many stations a farm has
     Stations,
-    // how many pages a job, a card or a farm has
+    /// place 3: how many pages a job, a card or a farm has
     Pages,
-    // how many stray copies are reckoned with
+    /// place 4: how many stray copies are reckoned with
     Bound,
-    // how many pages the shop's own copy has
+    /// place 5: how many pages the shop's own copy has
     OwnCopy,
-    // how many sums a difference is solved from
+    /// place 6: how many sums a difference is solved from
     Sums,
-    // how many bytes a page has
+    /// place 7: how many bytes a page has
     PageLength,
 }
 
-// The buffer that is too short.
+/// The buffer that is too short.
 #[derive(Clone, Copy, PartialEq, Eq, Debug)]
 pub enum Buffer {
-    // the tally of a check
+    /// place 1: the tally of a check
     Tally,
-    // any other
+    /// place 2: any other
     Other,
 }
 
 // By hand: the numbers and places are told to operators and other programs, and follow no order of the cases.
 impl Refusal {
+    /// What kind of refusal it is, 1 to 12.
     pub fn number(self) -> u32
         ensures { result ≡ Numbers.number self }
     {
@@ -84,6 +89,7 @@ impl Refusal {
         }
     }
 
+    /// Where: a limit, a buffer, a station or a position, as each case says; 0 where there is nothing to point at.
     pub fn place(self) -> usize
         ensures { result ≡ Numbers.place self }
     {
@@ -109,7 +115,7 @@ impl Refusal {
     }
 }
 
-// `refused NUMBER PLACE`
+/// `refused NUMBER PLACE`, in decimal.
 impl fmt::Display for Refusal {
     ghost output = { λ r. Some (refusal_text r) };
 
