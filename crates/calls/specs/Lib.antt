@@ -5,6 +5,7 @@ pub mod Opening
 pub mod Slips
 pub mod Closing
 pub mod Endings
+pub mod RisingLists
 pub mod Listing
 pub mod Runs
 pub mod Steady

@@ -1,20 +1,28 @@
 -- Listing the bad pages of one station.
 use Rattle.std.specs.Prelude.{◌≡◌, ℕ, ◌<◌, ◌≤◌, List, [], ◌∷◌, length, Some, Ok, Err, Option, Result}
+use Rattle.std.proofs.Common.{arith}
 use Rattle.refusal.specs.declared.Refusal.{Refusal}
 use Rattle.refusal.specs.Numbers.{number, place}
 use Rattle.refusal.specs.Rules.{Rule, Within, unless, Refused, Accepted}
 use Rattle.scheme.specs.Farm.{Bad}
 use Rattle.tally.specs.Rows.{signature_in, tally_size}
 use Rattle.tally.specs.Listing.{Lists, Listed}
+use Rattle.calls.specs.RisingLists.{no_longer}
 use Rattle.calls.specs.declared.terms.Terms.{Terms}
 use Rattle.calls.specs.declared.phases.Verdict.{Verdict}
 use Rattle.calls.specs.declared.phases.Verdict.TheVariants.{Report}
+
+-- all lists of these pages are equally long
+pub fits_or_not : (N : ℕ) (Q : ℕ → Type 0) (room : ℕ) (r : Refusal) → ((xs : List ℕ) × Lists N Q xs × (length xs ≤ room)) →
+    ((xs : List ℕ) × Lists N Q xs × (room < length xs)) × (number r ≡ 2) × (place r ≡ 2) → ⊥
+fits_or_not N Q room r (xs, short, fits) ((ys, long, more), _, _) = omega (arith, no_longer long short)
 
 -- more of these pages than room
 abbrev pub crowded : (N : ℕ) → (ℕ → Type 0) → (room : ℕ) → Rule
 crowded N Q room = record {
   due = λ r. ((xs : List ℕ) × Lists N Q xs × (room < length xs)) × (number r ≡ 2) × (place r ≡ 2);
   clear = (xs : List ℕ) × Lists N Q xs × (length xs ≤ room);
+  apart = fits_or_not N Q room;
 }
 
 -- a short tally, no report, no such station, then too little room for this station's bad pages
