@@ -1,5 +1,6 @@
 -- What a finite field is: its numbers, its operations and their laws.
-use Rattle.std.specs.Prelude.{◌≡◌, ℕ, zero, suc, ◌%◌, ◌^◌, ◌<◌, ◌≤◌, min}
+use Rattle.std.specs.Prelude.{◌≡◌, ℕ, zero, suc, ◌%◌, ◌<◌, ◌≤◌, min}
+use Rattle.field.specs.declared.limits.TheConstants.{PAGE_LIMIT, VALUE_LIMIT}
 
 -- The elements are the codes 0 to size - 1. An operation takes any word and counts it modulo the size.
 pub record Ops : Type 0 where
@@ -14,7 +15,7 @@ pub record Ops : Type 0 where
 
 -- how many pages a job may have
 abbrev pub page_limit : Ops → ℕ
-page_limit f = min 1920 f.places
+page_limit f = min PAGE_LIMIT f.places
 
 -- a to the power n
 abbrev pub power : Ops → ℕ → ℕ → ℕ
@@ -29,7 +30,7 @@ pub record Named (f : Ops) (size places alpha : ℕ) : Type 0 where
 
 pub record Laws (f : Ops) : Type 0 where
   pub size_least : 256 ≤ f.size
-  pub size_most : f.size ≤ 2 ^ 28
+  pub size_most : f.size ≤ VALUE_LIMIT
   pub alpha_code : f.alpha < f.size
   pub plus_code : (a b : ℕ) → f.plus a b < f.size
   pub minus_code : (a b : ℕ) → f.minus a b < f.size
