@@ -2,11 +2,13 @@
 #![tactic(auto)]
 
 ghost use Rattle.std.specs.Prelude.{◌≡◌, refl};
+ghost use Rattle.field.specs.declared.limits.TheConstants.{PAGE_LIMIT};
 ghost use Rattle.prime.specs.Prime.{prime};
 ghost use Rattle.prime.specs.Laws.{prime_laws, prime_spread};
 
-use field::Field;
+use field::{Field, PAGE_LIMIT};
 
+/// The field of 65,537 elements: the whole numbers modulo that prime, with alpha = 3 and room for 1,920 pages.
 pub struct Prime;
 
 const MODULUS: u64 = 65537;
@@ -16,9 +18,9 @@ impl Field for Prime {
 
     ghost SIZE = { 65537 };
 
-    const PLACES: usize = 1920;
+    const PLACES: usize = PAGE_LIMIT;
 
-    ghost PLACES = { 1920 };
+    ghost PLACES = { PAGE_LIMIT };
 
     const ALPHA: u32 = 3;
 
