@@ -1,20 +1,24 @@
 -- A table of the powers of alpha in the small field, by one test over the whole table.
-use Rattle.std.proofs.Common.{◌≡◌, refl, sym, ap, subst, ◌∙◌, Bool, true, List, [], ◌∷◌, ℕ, zero, suc, ◌+◌, ◌*◌, ◌/◌, ◌%◌, ◌<◌, add-zero, zero-add, add-suc, suc-add, mod-lt, le_of_suc-le-suc, not-suc-le-zero, arith, T, eqb, eqb→eq, lit<, length, get_or}
+use Rattle.std.proofs.Common.{◌≡◌, refl, sym, ap, ◌∙◌, Bool, true, false, ◌&&◌, IsTrue, List, [], ◌∷◌, ℕ, zero, suc, ◌+◌, ◌*◌, ◌/◌, ◌%◌, ◌<◌, add-zero, zero-add, add-suc, suc-add, mod-lt, le_of_suc-le-suc, not-suc-le-zero, arith, eqb, eqb-true, lit<, length, get_or}
 use Rattle.std.proofs.Math.Nat.{div-add-mod}
 use Rattle.field.specs.Field.{Ops, Laws, power}
 use Rattle.field.proofs.Laws.{times_one_code, power_code, power_add, power_mul}
 use Rattle.binary.specs.Binary.{product, small}
-use Rattle.binary.specs.Tests.{both, both_left, both_right}
+use Rattle.binary.specs.Powers.{Tabled, steps}
 use Rattle.binary.specs.Fields.{small_laws}
+use Rattle.binary.specs.declared.powers.TheConstants.{POWERS}
 
--- the first of the list is x, and each other is alpha times the one before it
-abbrev pub steps : Ops → ℕ → List ℕ → Bool
-steps f x [] = true
-steps f x (y ∷ ys) = both (eqb y x) (steps f (f.times x f.alpha) ys)
+both_left : (a b : Bool) → IsTrue (a && b) → IsTrue a
+both_left true b t = refl
+both_left false b t = t
 
-stepped : (f : Ops) (m : ℕ) (xs : List ℕ) → T (steps f (power f f.alpha m) xs) → (k : ℕ) → k < length xs → get_or xs k 0 ≡ power f f.alpha (m + k)
+both_right : (a b : Bool) → IsTrue (a && b) → IsTrue b
+both_right true b t = t
+both_right false b t = absurd (cc)
+
+stepped : (f : Ops) (m : ℕ) (xs : List ℕ) → IsTrue (steps f (power f f.alpha m) xs) → (k : ℕ) → k < length xs → get_or xs k 0 ≡ power f f.alpha (m + k)
 stepped f m [] t k h = absurd (not-suc-le-zero h)
-stepped f m (x ∷ xs) t zero h = eqb→eq x (power f f.alpha m) (both_left _ _ t) ∙ ap (power f f.alpha) (sym (add-zero m))
+stepped f m (x ∷ xs) t zero h = eqb-true x (power f f.alpha m) (both_left _ _ t) ∙ ap (power f f.alpha) (sym (add-zero m))
 stepped f m (x ∷ xs) t (suc k) h =
     stepped f (suc m) xs (both_right (eqb x (power f f.alpha m)) _ t) k (le_of_suc-le-suc h)
     ∙ ap (power f f.alpha) (suc-add m k ∙ sym (add-suc m k))
@@ -32,11 +36,12 @@ module _ {f : Ops} (l : Laws f) where
       let is : r + m * k ≡ n = omega (arith, div-add-mod n m) in
       cc (times_one_code l (power f a r) (power_code l a r), power_mul l a m k, power_one k, power_add l a r (m * k))
 
--- a list of 255 that passes the test has alpha^n at n % 255
-pub table : (xs : List ℕ) (n : ℕ) → length xs ≡ 255 → T (steps small 1 xs) → get_or xs (n % 255) 0 ≡ power small 2 n
+-- the table passes the test, so it has the powers
+pub tabled : Tabled small POWERS
 unfolding product
-table xs n size t =
-    let h : n % 255 < 255 = mod-lt n (lit< tt) in
-    stepped small 0 xs t (n % 255) (subst (λ (m : ℕ). n % 255 < m) (sym size) h)
-    ∙ ap (power small 2) (zero-add (n % 255))
-    ∙ power_mod small_laws 2 255 n refl
+tabled = record { size = refl; stepped = refl; entries = λ n h. stepped small 0 POWERS refl n h ∙ ap (power small 2) (zero-add n) }
+
+-- it has alpha^n at n % 255
+pub looked_up : (n : ℕ) → get_or POWERS (n % 255) 0 ≡ power small 2 n
+unfolding product
+looked_up n = tabled.entries (n % 255) (mod-lt n (lit< tt)) ∙ power_mod small_laws 2 255 n refl

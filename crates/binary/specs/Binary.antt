@@ -3,6 +3,7 @@
 use Rattle.std.specs.Prelude.{◌≡◌, ℕ, zero, suc, ◌-◌, ◌*◌, ◌/◌, ◌%◌, ◌^◌, ◌<◌}
 use Rattle.std.specs.Int.Bits.{bit_xor}
 use Rattle.field.specs.Field.{Ops}
+use Rattle.field.specs.declared.limits.TheConstants.{PAGE_LIMIT}
 
 -- poly has degree w, which is 2 or more, so that x is a word, and less than 32
 pub record Degree (w poly : ℕ) : Type 0 where
@@ -51,4 +52,4 @@ small = binary 8 285 255
 
 -- the field of 65536 elements, modulo x^16 + x^12 + x^3 + x + 1
 abbrev pub wide : Ops
-wide = binary 16 69643 1920
+wide = binary 16 69643 PAGE_LIMIT

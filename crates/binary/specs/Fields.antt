@@ -2,6 +2,7 @@
 use Rattle.std.specs.Prelude.{◌≡◌, refl, List, [], ◌∷◌, ℕ}
 use Rattle.std.proofs.Common.{arith, lit≤}
 use Rattle.field.specs.Field.{Laws, Spread}
+use Rattle.field.specs.declared.limits.TheConstants.{PAGE_LIMIT}
 use Rattle.field.proofs.Walk.{spread}
 use Rattle.binary.specs.Binary.{Degree, product, squared, small, wide}
 use Rattle.binary.specs.Inverses.{Computed, laws}
@@ -33,7 +34,7 @@ unfolding product squared
 wide_computed = record { least = lit≤ tt; most = lit≤ tt; degree = refl; round = tt; undone = tt }
 
 pub wide_laws : Laws wide
-wide_laws = laws 16 69643 wide_back wide_computed 1920
+wide_laws = laws 16 69643 wide_back wide_computed PAGE_LIMIT
 
 pub wide_spread : Spread wide
 unfolding product

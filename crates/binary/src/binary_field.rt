@@ -7,6 +7,7 @@ use crate::product::{invert, multiply, shift_add};
 use field::Field;
 use std::marker::PhantomData;
 
+/// The field of the words of WIDTH bits; sums are without carry, products modulo the polynomial.
 pub struct Binary<M> {
     modulus: PhantomData<M>,
 }

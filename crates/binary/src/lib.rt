@@ -6,9 +6,12 @@ mod modulus;
 mod powers;
 mod product;
 mod small;
+mod theorems;
 mod wide;
 
 pub use binary_field::Binary;
 pub use modulus::Modulus;
+pub use powers::powers_tabled;
 pub use small::{Small, SmallModulus};
+pub use theorems::products_are_reduced;
 pub use wide::{Wide, WideModulus};

@@ -1,4 +1,6 @@
 // The powers of alpha in the field of 256 elements.
+ghost use Rattle.binary.specs.Binary.{small};
+ghost use Rattle.binary.specs.Powers.{Tabled};
 
 // alpha^0 to alpha^254, which are all the codes but 0.
 pub(crate) const POWERS: [u8; 255] = [
@@ -16,3 +18,8 @@ pub(crate) const POWERS: [u8; 255] = [
     144, 61, 122, 244, 245, 247, 243, 251, 235, 203, 139, 11, 22, 44, 88, 176, 125, 250, 233, 207,
     131, 27, 54, 108, 216, 173, 71, 142,
 ];
+
+/// A theorem: the table passes the test of its steps, over all of it, so each entry is its power.
+pub fn powers_tabled()
+    ensures { Tabled small POWERS }
+{}

@@ -1,14 +1,17 @@
 // The field of 2^8 elements.
-ghost use Rattle.std.specs.Prelude.{refl};
+ghost use Rattle.std.specs.Prelude.{◌≡◌, refl, Some};
+ghost use Rattle.field.specs.Field.{power};
+ghost use Rattle.binary.specs.Binary.{small};
 ghost use Rattle.binary.specs.Fields.{small_degree, small_laws, small_spread};
 
 use crate::binary_field::Binary;
 use crate::modulus::Modulus;
 use crate::powers::POWERS;
 
-// x^8 + x^4 + x^3 + x^2 + 1
+/// x^8 + x^4 + x^3 + x^2 + 1, with its 255 places.
 pub struct SmallModulus;
 
+/// The field of 256 elements, with alpha = 2. A job has at most 255 pages in it.
 pub type Small = Binary<SmallModulus>;
 
 impl Modulus for SmallModulus {
@@ -36,7 +39,9 @@ impl Modulus for SmallModulus {
 
     ghost spread = { small_spread };
 
-    fn tabled_power(n: usize) -> Option<u32> {
+    fn tabled_power(n: usize) -> Option<u32>
+        ensures { result ≡ Some (power small 2 n) }
+    {
         Some(POWERS[n % 255] as u32)
     }
 }

@@ -1,13 +1,16 @@
 // The field of 2^16 elements.
 ghost use Rattle.std.specs.Prelude.{refl};
+ghost use Rattle.field.specs.declared.limits.TheConstants.{PAGE_LIMIT};
 ghost use Rattle.binary.specs.Fields.{wide_degree, wide_laws, wide_spread};
 
 use crate::binary_field::Binary;
 use crate::modulus::Modulus;
+use field::PAGE_LIMIT;
 
-// x^16 + x^12 + x^3 + x + 1
+/// x^16 + x^12 + x^3 + x + 1, with its 1,920 places.
 pub struct WideModulus;
 
+/// The field of 65,536 elements, with alpha = 2.
 pub type Wide = Binary<WideModulus>;
 
 impl Modulus for WideModulus {
@@ -23,9 +26,9 @@ impl Modulus for WideModulus {
 
     ghost SIZE = { 65536 };
 
-    const PLACES: usize = 1920;
+    const PLACES: usize = PAGE_LIMIT;
 
-    ghost PLACES = { 1920 };
+    ghost PLACES = { PAGE_LIMIT };
 
     ghost degree = { wide_degree };
 
