@@ -3,18 +3,15 @@
 ghost use Rattle.std.specs.Prelude.{◌≡◌, fold};
 ghost use Rattle.page.specs.Pages.{page_bytes, signed_bytes, absorb, signature, page_signature};
 
+use crate::cut::{length_of_page, start_of_page};
 use field::Field;
 
-// The bytes of page 1, 2, ..; none for a page that the job does not have.
+/// A job's own bytes of page 1, 2, .., with pages of this length; none for a page that the job does not have.
 pub fn page_bytes(job: &[u8], length: usize, page: usize) -> &[u8]
     ensures { result.now ≡ page_bytes length job.now page }
 {
-    if page == 0 {
-        return &[];
-    }
-    let start = (page - 1).saturating_mul(length).min(job.len());
-    let end = start.saturating_add(length).min(job.len());
-    &job[start..end]
+    let start = start_of_page(job.len(), length, page);
+    &job[start..start + length_of_page(job.len(), length, page)]
 }
 
 // Goes on from a signature over more bytes.
@@ -26,7 +23,8 @@ fn absorb_all<F: Field>(start: u32, bytes: &[u8]) -> u32
     })
 }
 
-// The signature of a page with these bytes of its own, filled with zero bytes at its end.
+/// The signature of a page with these bytes of its own, filled with zero bytes at its end up to the page length: a code of the field
+/// (docs/RULES.md, "Pages and signatures"). More bytes than the length are signed as they are.
 pub fn sign<F: Field>(own: &[u8], length: usize) -> u32
     ensures { result ≡ signature F.Field.ops (signed_bytes length own.now) }
 {
@@ -34,7 +32,7 @@ pub fn sign<F: Field>(own: &[u8], length: usize) -> u32
     F::mul(absorb_all::<F>(0, own), F::alpha_pow(filling))
 }
 
-// The signature of page 1, 2, .. of a job.
+/// The signature of page 1, 2, .. of a job, with pages of this length; 0 for a page that the job does not have.
 pub fn page_signature<F: Field>(job: &[u8], length: usize, page: usize) -> u32
     ensures { result ≡ page_signature F.Field.ops length job.now page }
 {
