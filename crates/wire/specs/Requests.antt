@@ -1,5 +1,6 @@
 -- Requests and the words that carry them.
-use Rattle.std.specs.Prelude.{◌≡◌, ℕ, suc, ◌-◌, ◌^◌, ◌<◌, List, [], ◌∷◌}
+use Rattle.std.specs.Prelude.{◌≡◌, ℕ, suc, ◌-◌, ◌<◌, List, [], ◌∷◌}
+use Rattle.field.specs.declared.limits.TheConstants.{VALUE_LIMIT}
 use Rattle.wire.specs.Words.{word}
 use Rattle.wire.specs.declared.asked.Asked.{Asked}
 use Rattle.wire.specs.declared.asked.Asked.TheVariants.{Sums, Signatures}
@@ -7,7 +8,7 @@ use Rattle.wire.specs.declared.request.Request.{Request}
 
 -- numbers that a word's value can hold
 abbrev pub Narrow : (check station first last : ℕ) → Type 0
-Narrow check station first last = (check < 2 ^ 28) × (station < 2 ^ 28) × (first < 2 ^ 28) × (last < 2 ^ 28)
+Narrow check station first last = (check < VALUE_LIMIT) × (station < VALUE_LIMIT) × (first < VALUE_LIMIT) × (last < VALUE_LIMIT)
 
 -- the kind of the word that has the first index
 abbrev pub asked_kind : Asked → ℕ

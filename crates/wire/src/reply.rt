@@ -9,7 +9,8 @@ use crate::request::Request;
 use field::Field;
 use refusal::Refusal;
 
-// The value words of a reply to the request. Refused: the lowest garbled position, then the lowest foreign one.
+/// The value words of a reply to the request, each with a code of the field. Refused: the lowest garbled position (8), then the
+/// lowest position at which the header is not the request's (9).
 pub fn read_reply<'a, F: Field>(request: &Request, words: &'a [u32]) -> Result<&'a [u32], Refusal>
     ensures { MatchResult result
         (λ values. Accepted (reading_reply F.Field.ops request.now words.now) × Reply F.Field.ops request.now words.now values.now)

@@ -1,20 +1,28 @@
 // A request: which check asks which station, for what, from which index to which.
-ghost use Rattle.std.specs.Prelude.{◌≡◌, ◌^◌, ◌<◌, MatchOption, MatchResult};
+ghost use Rattle.std.specs.Prelude.{◌≡◌, ◌<◌, MatchOption, MatchResult};
+ghost use Rattle.field.specs.declared.limits.TheConstants.{VALUE_LIMIT};
 
 use crate::asked::Asked;
 use crate::garbled::first_garbled;
 use crate::kind::Kind;
-use crate::words::{VALUE_LIMIT, has_kind, value, word};
+use crate::words::{has_kind, value, word};
+use field::VALUE_LIMIT;
 use refusal::Refusal;
 
+/// A request: four words on the link (docs/RULES.md, "Words on the link"). Each number fits the 28 bits of a word's value.
 #[derive(Clone, Copy)]
 pub struct Request {
+    /// the number of the check that asks
     pub check: u32,
+    /// the station that is asked
     pub station: u32,
+    /// what it is asked for
     pub asked: Asked,
+    /// the first page, or the first sum
     pub first: u32,
+    /// the last one; no value is asked for where it is below the first
     pub last: u32,
-    ghost narrow: { (check < 2 ^ 28) × (station < 2 ^ 28) × (first < 2 ^ 28) × (last < 2 ^ 28) },
+    ghost narrow: { (check < VALUE_LIMIT) × (station < VALUE_LIMIT) × (first < VALUE_LIMIT) × (last < VALUE_LIMIT) },
 }
 
 impl Request {
@@ -22,7 +30,7 @@ impl Request {
     ghost use Rattle.wire.specs.Reading.{reading_request};
     ghost use Rattle.wire.specs.Requests.{Narrow, Holds, request_words, values_due};
 
-    // A request, if each number fits the 28 bits of a word's value.
+    /// A request, if each number fits the 28 bits of a word's value; else None.
     pub fn new(check: u32, station: u32, asked: Asked, first: u32, last: u32) -> Option<Request>
         ensures { MatchOption result (Narrow check station first last → ⊥) (λ q. Holds q check station asked first last) }
     {
@@ -43,7 +51,8 @@ impl Request {
         }
     }
 
-    // The request that these words carry. Refused: the lowest garbled position.
+    /// The request that these words carry. Refused: the lowest garbled position (8).
+    /// Whether its indices make sense is not asked here: serving refuses those that do not.
     pub fn read(words: &[u32]) -> Result<Request, Refusal>
         ensures { MatchResult result (λ q. Accepted (reading_request words.now) × (words.now ≡ request_words q)) (Refused (reading_request words.now)) }
     {
@@ -67,14 +76,14 @@ impl Request {
         })
     }
 
-    // How many values it asks for.
+    /// How many values it asks for.
     pub fn value_count(&self) -> usize
         ensures { result ≡ values_due self.now }
     {
         (self.last as usize + 1).saturating_sub(self.first as usize)
     }
 
-    // The four words that are sent.
+    /// The four words that are sent: check, station, first index, last index.
     pub fn words(&self) -> [u32; 4]
         ensures { result ≡ request_words self.now }
     {

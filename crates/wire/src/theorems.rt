@@ -1,12 +1,12 @@
 // What is written on the link is read back.
 ghost use Rattle.wire.specs.Reading.{RequestsReadBack, RepliesReadBack};
 
-// Every request is read back as it was written.
+/// A theorem: every request is read back as it was written.
 pub fn requests_read_back()
     ensures { RequestsReadBack }
 {}
 
-// Every reply with as many codes as were asked for is accepted, and its values are read back as they were written.
+/// A theorem of every field: every reply with as many codes as were asked for is accepted, and its values are read back as they were written.
 pub fn replies_read_back()
     ensures { RepliesReadBack }
 {}

@@ -1,13 +1,12 @@
 // Words on the link: a kind in the top 4 bits, a value in the other 28.
-ghost use Rattle.std.specs.Prelude.{◌≡◌, ◌^◌, ◌<◌, Decides};
+ghost use Rattle.std.specs.Prelude.{◌≡◌, ◌<◌, Decides};
 ghost use Rattle.wire.specs.Kinds.{kind_number};
 ghost use Rattle.wire.specs.Words;
 
 use crate::kind::Kind;
+use field::VALUE_LIMIT;
 
-pub(crate) const VALUE_LIMIT: u32 = 1 << 28;
-
-// The value word of a reply that carries this number, counted modulo 2^28.
+/// The value word of a reply that carries this number, counted modulo 2^28 (docs/RULES.md, "Words on the link").
 pub fn value_word(number: u32) -> u32
     ensures { result ≡ Words.word 6 (Words.value_of number) }
 {
@@ -16,7 +15,7 @@ pub fn value_word(number: u32) -> u32
 
 // A word of this kind with this value.
 pub(crate) fn word(kind: Kind, value: u32) -> u32
-    requires { value < 2 ^ 28 }
+    requires { value < VALUE_LIMIT }
     ensures { result ≡ Words.word (kind_number kind) value }
 {
     u32::from(kind) * VALUE_LIMIT + value
