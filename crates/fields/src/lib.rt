@@ -5,18 +5,22 @@ ghost use Rattle.fields.specs.Names.{NamedBy, NumberedBy};
 
 use std::str::FromStr;
 
+/// Which of the three fields (docs/RULES.md, "Fields").
 #[derive(Clone, Copy, PartialEq, Eq, Debug)]
 pub enum FieldName {
+    /// 256 elements, at most 255 pages; called `small`, number 1
     Small,
+    /// 65,536 elements; called `wide`, number 2
     Wide,
+    /// 65,537 elements; called `prime`, number 3
     Prime,
 }
 
-// No field has this name or number.
+/// No field has this name or number.
 #[derive(Clone, Copy, PartialEq, Eq, Debug)]
 pub struct UnknownField;
 
-// The field that is called so: small, wide or prime.
+/// The field that is called so, in lower case: small, wide or prime.
 impl FromStr for FieldName {
     type Err = UnknownField;
 
@@ -32,7 +36,7 @@ impl FromStr for FieldName {
     }
 }
 
-// The field with this number: 1 small, 2 wide, 3 prime.
+/// The field with this number, as programs in C give it: 1 small, 2 wide, 3 prime.
 impl TryFrom<u32> for FieldName {
     type Error = UnknownField;
 
