@@ -2,6 +2,7 @@
 use Rattle.std.specs.Prelude.{◌≡◌, ℕ, ◌<◌, ◌≤◌, List, map, length}
 use Rattle.field.specs.Field.{Ops, power}
 use Rattle.field.specs.Sums.{entry, total, power_sum}
+use Rattle.field.specs.declared.limits.TheConstants.{SUM_LIMIT}
 use Rattle.algebra.specs.Vectors.{Page, Codes, weight}
 use Rattle.solve.specs.declared.candidates.Candidate.{Candidate}
 use Rattle.solve.specs.declared.entries.Coded.{Coded}
@@ -46,9 +47,9 @@ pub record Roots (f : Ops) (q : ℕ → ℕ) (N : ℕ) (cs : List Candidate) : T
   pub root : (i : ℕ) → i < length cs → q (at (points_of cs) i) ≡ 0
   pub all : (n : ℕ) → Page N n → q (power f f.alpha n) ≡ 0 → Among (length cs) (at (pages_of cs)) n
 
--- q is 0 at the points of no more than 128 pages
+-- q is 0 at the points of no more pages than there are sums
 abbrev pub FewRoots : Ops → (ℕ → ℕ) → ℕ → Type 0
-FewRoots f q N = (m : ℕ) (g x : ℕ → ℕ) → Rising f N m g x → ((i : ℕ) → i < m → q (x i) ≡ 0) → m ≤ 128
+FewRoots f q N = (m : ℕ) (g x : ℕ → ℕ) → Rising f N m g x → ((i : ℕ) → i < m → q (x i) ≡ 0) → m ≤ SUM_LIMIT
 
 -- e is 0 but on the pages g 0 .. g (m - 1)
 abbrev pub Supported : ℕ → ℕ → (ℕ → ℕ) → (ℕ → ℕ) → Type 0

@@ -2,6 +2,7 @@
 use Rattle.std.specs.Prelude.{◌≡◌, ℕ, ◌+◌, ◌≤◌, ◌⊎◌, List, [], ◌∷◌, length}
 use Rattle.field.specs.Field.{Ops, page_limit}
 use Rattle.field.specs.Sums.{entry}
+use Rattle.field.specs.declared.limits.TheConstants.{SUM_LIMIT}
 use Rattle.algebra.specs.Vectors.{Solves}
 use Rattle.refusal.specs.Rules.{Rule, Within, unless, lowest}
 
@@ -11,7 +12,7 @@ Solution f N t values e = Solves f N t (length values) (entry values) e
 
 -- J sums are enough to tell a vector of weight t over N pages, and not too many
 abbrev pub Enough : ℕ → ℕ → ℕ → Type 0
-Enough N t J = ((J ≡ N) ⊎ (t + t ≤ J)) × (J ≤ 128)
+Enough N t J = ((J ≡ N) ⊎ (t + t ≤ J)) × (J ≤ SUM_LIMIT)
 
 -- value j is no code
 abbrev pub NoCode : Ops → List ℕ → ℕ → Type 0

@@ -7,22 +7,22 @@ ghost use Rattle.solve.specs.Answer.{Answer};
 use crate::Entry;
 use crate::candidates::choose;
 use crate::entries::interpolate;
+use crate::limits::LIST_SIZE;
 use crate::listing::list_nonzeros;
 use crate::verify::verified;
-use field::Field;
+use field::{Field, SUM_LIMIT};
 use refusal::{Limit, Refusal};
 
-// The most sums that a difference is solved from.
-pub const SUM_LIMIT: usize = 128;
-
-// Seeks the codes of the pages 1 to `pages`, at most `weight` of them not 0, whose sums 1, 2, .. are the values.
-// Some: how many are not 0; they stand in the list, page by page, with page 0 in all places after. None: there are no such codes.
-// Refused: the number of pages, the number of values, the first value that is no code; the list is then what it was.
+/// Seeks the codes of the pages 1 to `pages`, at most `weight` of them not 0, whose sums 1, 2, .. are the values
+/// (docs/RULES.md, "Solving a difference"). Some: how many are not 0; they stand in the list, page by page, with page 0 in all places
+/// after. None: there are no such codes, and the list is what it was. Refused: the number of pages (1, place 3); the number of
+/// values, if they are more than 128, or neither as many as the pages nor twice the weight (1, place 6); the first value that is no
+/// code (8). The list is then what it was. It needs no heap, and time in proportion to pages and values.
 pub fn solve<F: Field>(
     pages: usize,
     values: &[u32],
     weight: usize,
-    list: &mut [Entry; 129],
+    list: &mut [Entry; LIST_SIZE],
 ) -> Result<Option<usize>, Refusal>
     ensures { MatchResult result
         (λ answer. Accepted (solving F.Field.ops pages weight values.now)

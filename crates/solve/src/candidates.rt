@@ -6,7 +6,7 @@ ghost use Rattle.solve.specs.Candidates.{FewRoots, Roots, Covers};
 use crate::locator::locate;
 use crate::polynomial::evaluate;
 use arrayvec::ArrayVec;
-use field::Field;
+use field::{Field, SUM_LIMIT};
 
 // A page, with its point.
 #[derive(Clone, Copy, Default)]
@@ -20,9 +20,9 @@ pub(crate) fn choose<F: Field>(
     pages: usize,
     values: &[u32],
     weight: usize,
-) -> ArrayVec<Candidate, 128>
+) -> ArrayVec<Candidate, SUM_LIMIT>
     requires few_pages { pages ≤ F.Field.ops.places }
-    requires few_values { length values.now ≤ 128 }
+    requires few_values { length values.now ≤ SUM_LIMIT }
     requires enough { (length values.now ≡ pages) ⊎ (weight + weight ≤ length values.now) }
     ensures { Covers F.Field.ops pages weight values.now result.items }
 {
@@ -33,7 +33,7 @@ pub(crate) fn choose<F: Field>(
 }
 
 // The pages of 1 to `pages`, rising, at whose points the locator is 0.
-fn roots<F: Field>(locator: &[u32], pages: usize) -> ArrayVec<Candidate, 128>
+fn roots<F: Field>(locator: &[u32], pages: usize) -> ArrayVec<Candidate, SUM_LIMIT>
     requires { FewRoots F.Field.ops (value F.Field.ops (length locator.now) (at locator.now) 0) pages }
     ensures { Roots F.Field.ops (value F.Field.ops (length locator.now) (at locator.now) 0) pages result.items }
 {

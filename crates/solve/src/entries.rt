@@ -4,9 +4,10 @@ ghost use Rattle.solve.specs.Polynomials.{at, interpolated, Product};
 ghost use Rattle.solve.specs.Candidates.{points_of, candidates_of, codes_of, RisingIn, Forced};
 
 use crate::candidates::Candidate;
+use crate::limits::COEFFICIENTS;
 use crate::polynomial::combine;
 use arrayvec::ArrayVec;
-use field::Field;
+use field::{Field, SUM_LIMIT};
 
 // A candidate, with the code that is forced there.
 #[derive(Clone, Copy, Default)]
@@ -17,9 +18,9 @@ pub(crate) struct Coded {
 
 // A code for each candidate: what each vector has there that has the values for its first sums and is 0 elsewhere.
 pub(crate) fn interpolate<F: Field>(
-    candidates: &ArrayVec<Candidate, 128>,
+    candidates: &ArrayVec<Candidate, SUM_LIMIT>,
     values: &[u32],
-) -> ArrayVec<Coded, 128>
+) -> ArrayVec<Coded, SUM_LIMIT>
     requires { length candidates.now.items ≤ length values.now }
     ensures candidates { candidates_of result.items ≡ candidates.now.items }
     ensures codes { (i : ℕ) → i < length candidates.now.items → at (codes_of result.items) i < F.Field.ops.size }
@@ -40,11 +41,11 @@ pub(crate) fn interpolate<F: Field>(
 }
 
 // The product of x - point over the candidates' points.
-fn product<F: Field>(candidates: &[Candidate]) -> [u32; 129]
-    requires { length candidates.now ≤ 128 }
+fn product<F: Field>(candidates: &[Candidate]) -> [u32; COEFFICIENTS]
+    requires { length candidates.now ≤ SUM_LIMIT }
     ensures { Product F.Field.ops (length candidates.now) (at (points_of candidates.now)) (at result) }
 {
-    let mut product = [0; 129];
+    let mut product = [0; COEFFICIENTS];
     product[0] = 1;
     for candidate in candidates {
         product = combine::<F>(&product, 1, candidate.point, &product, 0);
@@ -54,8 +55,8 @@ fn product<F: Field>(candidates: &[Candidate]) -> [u32; 129]
 
 // The entry at the point x of a vector whose entries are at the roots of the product, as many as there are values.
 // `quotient` runs over the coefficients of the product divided by its root x, from the highest on.
-fn entry<F: Field>(product: &[u32; 129], x: u32, values: &[u32]) -> u32
-    requires { length values.now ≤ 128 }
+fn entry<F: Field>(product: &[u32; COEFFICIENTS], x: u32, values: &[u32]) -> u32
+    requires { length values.now ≤ SUM_LIMIT }
     ensures { result ≡ interpolated F.Field.ops (length values.now) (at product.now) x (at values.now) }
 {
     let mut quotient = 0;

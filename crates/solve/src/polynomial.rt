@@ -2,6 +2,7 @@
 ghost use Rattle.std.specs.Prelude.{◌≡◌, ℕ, ◌<◌, ◌≤◌, length};
 ghost use Rattle.solve.specs.Polynomials.{at, value, window, shifted};
 
+use crate::limits::COEFFICIENTS;
 use field::Field;
 
 // The polynomial with these coefficients, at x.
@@ -26,24 +27,24 @@ pub(crate) fn against<F: Field>(coefficients: &[u32], values: &[u32]) -> u32
 }
 
 // The coefficient at place i of x^a p.
-fn coefficient(p: &[u32; 129], a: usize, i: usize) -> u32
-    requires { i < 129 }
+fn coefficient(p: &[u32; COEFFICIENTS], a: usize, i: usize) -> u32
+    requires { i < COEFFICIENTS }
     ensures { result ≡ shifted a (at p.now) i }
 {
     if i < a { 0 } else { p[i - a] }
 }
 
-// x^a p - c x^b w, in the first 129 places.
+// x^a p - c x^b w, in the first COEFFICIENTS places.
 pub(crate) fn combine<F: Field>(
-    p: &[u32; 129],
+    p: &[u32; COEFFICIENTS],
     a: usize,
     c: u32,
-    w: &[u32; 129],
+    w: &[u32; COEFFICIENTS],
     b: usize,
-) -> [u32; 129]
-    ensures { (i : ℕ) → i < 129 → at result i ≡ F.Field.ops.minus (shifted a (at p.now) i) (F.Field.ops.times c (shifted b (at w.now) i)) }
+) -> [u32; COEFFICIENTS]
+    ensures { (i : ℕ) → i < COEFFICIENTS → at result i ≡ F.Field.ops.minus (shifted a (at p.now) i) (F.Field.ops.times c (shifted b (at w.now) i)) }
 {
-    let mut difference = [0; 129];
+    let mut difference = [0; COEFFICIENTS];
     for (i, place) in difference.iter_mut().enumerate() {
         *place = minus_multiple::<F>(coefficient(p, a, i), c, coefficient(w, b, i));
     }

@@ -6,11 +6,11 @@ ghost use Rattle.solve.specs.Candidates.{candidates_of, codes_of, raised, HasSum
 
 use crate::entries::Coded;
 use arrayvec::ArrayVec;
-use field::Field;
+use field::{Field, SUM_LIMIT};
 
 // Whether the codes at the candidates are a solution: at most `weight` are not 0, and the values are their sums.
 pub(crate) fn verified<F: Field>(
-    coded: &ArrayVec<Coded, 128>,
+    coded: &ArrayVec<Coded, SUM_LIMIT>,
     values: &[u32],
     weight: usize,
 ) -> bool
@@ -28,10 +28,10 @@ fn weigh(coded: &[Coded]) -> usize
 
 // Whether the codes at the candidates have the values for their sums. A term is a code times a power of its point.
 fn has_sums<F: Field>(coded: &[Coded], values: &[u32]) -> bool
-    requires { length coded.now ≤ 128 }
+    requires { length coded.now ≤ SUM_LIMIT }
     ensures { Decides result (HasSums F.Field.ops (candidates_of coded.now) (codes_of coded.now) values.now) }
 {
-    let mut room = [Coded::default(); 128];
+    let mut room = [Coded::default(); SUM_LIMIT];
     let terms = &mut room[..coded.len()];
     terms.copy_from_slice(coded);
     for value in values {
