@@ -3,17 +3,17 @@
 
 ghost use Rattle.algebra.specs.Vectors.{Vanishing, Unique, Far};
 
-// A vector of weight at most J whose sums 1 to J are 0 is 0.
+/// A theorem: a vector of weight at most J whose sums 1 to J are 0 is 0.
 pub fn vanishing()
     ensures { Vanishing }
 {}
 
-// Two vectors with the same sums 1 to J are equal, if their weights add up to at most J or J is at least the number of pages.
+/// A theorem: two vectors with the same sums 1 to J are equal, if their weights add up to at most J or J is at least the number of pages.
 pub fn unique()
     ensures { Unique }
 {}
 
-// Two different vectors with the same sums 1 to J have weights that add up to more than J, and J is less than the number of pages.
+/// A theorem: two different vectors with the same sums 1 to J have weights that add up to more than J, and J is less than the number of pages.
 pub fn far()
     ensures { Far }
 {}

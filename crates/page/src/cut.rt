@@ -52,7 +52,8 @@ impl Cut {
 
     /// How many pages there are, from 1 to the field's limit.
     pub fn pages(&self) -> usize
-        ensures { result ≡ page_count self.now.page_length self.now.bytes }
+        ensures held { result ≡ self.now.pages }
+        ensures counted { result ≡ page_count self.now.page_length self.now.bytes }
     {
         self.pages
     }
