@@ -3,6 +3,7 @@ use Rattle.std.specs.Prelude.{◌≡◌, ℕ, ◌+◌, ◌<◌, ◌≤◌, ◌�
 use Rattle.std.specs.List.{range_with_len}
 use Rattle.field.specs.Field.{Ops, Laws}
 use Rattle.field.specs.Sums.{entry, power_sum}
+use Rattle.field.specs.declared.limits.TheConstants.{SUM_LIMIT}
 use Rattle.refusal.specs.declared.Refusal.{Refusal}
 use Rattle.refusal.specs.Rules.{Rule, Within, unless, Accepted, Refused}
 use Rattle.wire.specs.declared.asked.Asked.{Asked}
@@ -14,7 +15,7 @@ use Rattle.wire.specs.Reading.{reading_request, reading_reply, Reply, reply_word
 
 -- the last index that may be asked for
 abbrev pub index_limit : Asked → List ℕ → ℕ
-index_limit Sums row = 128
+index_limit Sums row = SUM_LIMIT
 index_limit Signatures row = length row
 
 abbrev pub answer : Ops → List ℕ → Asked → ℕ → ℕ

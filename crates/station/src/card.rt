@@ -5,12 +5,13 @@ ghost use Rattle.station.specs.Kinds.{making_card, card_row};
 ghost use Rattle.station.specs.Codes.{card_codes};
 
 use crate::questions::accept_index;
-use crate::trait_station::{SUM_LIMIT, Station};
-use field::Field;
+use crate::trait_station::Station;
+use field::{Field, SUM_LIMIT};
 use refusal::Refusal;
 use std::marker::PhantomData;
 
-// Each word counts modulo the field's size.
+/// A station that holds a signature for each page, as words that are lent to it, page 1 first (docs/RULES.md, "Stations").
+/// Each word counts modulo the field's size.
 #[derive(Drop)]
 pub struct Card<'a, F> {
     words: &'a [u32],
@@ -18,7 +19,7 @@ pub struct Card<'a, F> {
 }
 
 impl<'a, F: Field> Card<'a, F> {
-    // Refused: a number of words that no job has.
+    /// A card of these words. Refused: fewer than 1 or too many words for the field's pages (1, place 3).
     pub fn new(words: &'a [u32]) -> Result<Card<'a, F>, Refusal>
         ensures { MatchResult result
             (λ card. Accepted (making_card F.Field.ops (length words.now)) × (card.words.now ≡ words.now))

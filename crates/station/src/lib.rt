@@ -9,7 +9,8 @@ mod theorems;
 mod trait_station;
 
 pub use card::Card;
+pub use questions::accept_index;
 pub use serving::serve;
 pub use shelf::Shelf;
 pub use theorems::{ends_agree, station_agrees};
-pub use trait_station::{SUM_LIMIT, Station};
+pub use trait_station::Station;

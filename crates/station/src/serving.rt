@@ -5,13 +5,14 @@ ghost use Rattle.wire.specs.Words;
 ghost use Rattle.wire.specs.Requests.{request_words, values_due};
 ghost use Rattle.station.specs.Serving.{serving, index_limit, answer, answers, InRange, ServedRequest, Served};
 
-use crate::trait_station::{SUM_LIMIT, Station};
-use field::Field;
-use wire::{Asked, Request};
+use crate::trait_station::Station;
+use field::{Field, SUM_LIMIT};
 use refusal::{Buffer, Refusal};
+use wire::{Asked, Request};
 
-// Answers a request to the station with this number: how many words of the reply are written.
-// Refused: garbled, another station, an index outside, a reply buffer that is too short; the buffer is then what it was.
+/// Answers a request to the station with this number: how many words of the reply are written, 4 and one for each value
+/// (docs/RULES.md, "Serving"); what stands after them in the buffer stays. Refused: the lowest garbled position (8), another station
+/// (9, place 2), an index outside (11), a reply buffer that is too short (2, place 2); the buffer is then what it was.
 pub fn serve<F: Field, S: Station<F>>(
     station: &S,
     number: u32,

@@ -6,54 +6,56 @@ ghost use Rattle.station.specs.Kinds.{job_row};
 ghost use Rattle.station.specs.Codes.{job_codes};
 
 use crate::questions::accept_index;
-use crate::trait_station::{SUM_LIMIT, Station};
-use field::Field;
+use crate::trait_station::Station;
+use field::{Field, SUM_LIMIT};
+use page::Cut;
 use refusal::Refusal;
 use std::marker::PhantomData;
 
+/// A station that holds a job's bytes, lent to it, and signs pages each time it is asked: sum j reads the whole job.
+/// Who asks often makes a card of it first (docs/RULES.md, "Stations").
 #[derive(Drop)]
 pub struct Shelf<'a, F> {
     job: &'a [u8],
-    page_length: usize,
-    pages: usize,
+    cut: Cut,
     field: PhantomData<F>,
 }
 
 impl<'a, F: Field> Shelf<'a, F> {
-    // Refused: the page length, then the number of pages.
+    /// A shelf of this job, with pages of this length. Refused: a page length outside 1 to 4,096 (1, place 7), then fewer than 1 or
+    /// too many pages for the field (1, place 3).
     pub fn new(job: &'a [u8], page_length: usize) -> Result<Shelf<'a, F>, Refusal>
         ensures { MatchResult result
             (λ shelf. Accepted (cutting F.Field.ops page_length (length job.now))
-            × (shelf.job.now ≡ job.now) × (shelf.page_length ≡ page_length)
-            × (shelf.pages ≡ page_count page_length (length job.now)))
+            × (shelf.job.now ≡ job.now) × (shelf.cut.page_length ≡ page_length)
+            × (shelf.cut.pages ≡ page_count page_length (length job.now)))
             (Refused (cutting F.Field.ops page_length (length job.now))) }
     {
-        let pages = page::count_pages::<F>(job.len(), page_length)?;
+        let cut = Cut::new::<F>(job.len(), page_length)?;
         Ok(Shelf {
             job,
-            page_length,
-            pages,
+            cut,
             field: PhantomData,
         })
     }
 }
 
 impl<'a, F: Field> Station<F> for Shelf<'a, F> {
-    ghost row = { λ shelf. job_row F.Field.ops shelf.page_length shelf.pages shelf.job.now };
+    ghost row = { λ shelf. job_row F.Field.ops shelf.cut.page_length shelf.cut.pages shelf.job.now };
 
-    ghost codes = { λ shelf page. job_codes F.Field.lawful shelf.page_length shelf.pages shelf.job.now page };
+    ghost codes = { λ shelf page. job_codes F.Field.lawful shelf.cut.page_length shelf.cut.pages shelf.job.now page };
 
     fn page_count(&self) -> usize {
-        self.pages
+        self.cut.pages()
     }
 
     fn signature(&self, page: usize) -> Result<u32, Refusal> {
         accept_index(page, self.page_count())?;
-        Ok(page::page_signature::<F>(self.job, self.page_length, page))
+        Ok(page::page_signature::<F>(self.job, self.cut.page_length(), page))
     }
 
     fn sum(&self, j: usize) -> Result<u32, Refusal> {
         accept_index(j, SUM_LIMIT)?;
-        Ok(page::job_sum::<F>(self.job, self.page_length, self.pages, j))
+        Ok(page::job_sum::<F>(self.job, self.cut.page_length(), self.cut.pages(), j))
     }
 }

@@ -7,25 +7,23 @@ ghost use Rattle.station.specs.Questions.{asking_page, asking_sum};
 use field::Field;
 use refusal::Refusal;
 
-// The sums that every station tells: 1 to 128.
-pub const SUM_LIMIT: usize = 128;
-
-// A station holds one copy of a job. It means the signatures of its pages; a question changes nothing.
+/// A station holds one copy of a job: it means the signatures of its pages, and a question changes nothing (docs/RULES.md, "Stations").
+/// `Card` and `Shelf` are stations; another one shows the law `codes`.
 pub trait Station<F: Field> {
     // the signatures of the pages 1 to N
     ghost row: { Self → List ℕ };
 
-    // How many pages it holds.
+    /// How many pages it holds.
     fn page_count(&self) -> usize
         ensures { result ≡ length (row self.now) };
 
-    // The signature of page 1 to N; any other is refused.
+    /// The signature of page 1 to N, a code; any other page is refused (11).
     fn signature(&self, page: usize) -> Result<u32, Refusal>
         ensures { MatchResult result
             (λ value. Accepted (asking_page (length (row self.now)) page) × (value ≡ entry (row self.now) page) × (value < F.Field.ops.size))
             (Refused (asking_page (length (row self.now)) page)) };
 
-    // Sum 1 to 128 of its signatures; any other is refused.
+    /// Sum 1 to 128 of its signatures, a code; any other sum is refused (11).
     fn sum(&self, j: usize) -> Result<u32, Refusal>
         ensures { MatchResult result
             (λ value. Accepted (asking_sum j) × (value ≡ power_sum F.Field.ops (length (row self.now)) (entry (row self.now)) j) × (value < F.Field.ops.size))
