@@ -8,11 +8,11 @@ ghost use Rattle.host.specs.Signing.{signing, Signs, summing, row_sums, SumsUp};
 
 use crate::status::{DONE, NO_FIELD, refuse};
 use binary::{Small, Wide};
-use field::Field;
+use field::{Field, SUM_LIMIT};
 use fields::FieldName;
 use prime::Prime;
 use refusal::{Buffer, Refusal};
-use station::{Card, SUM_LIMIT, Station};
+use station::{Card, Station};
 
 // Signs a job into a card, in the field with this number: 1 small, 2 wide, 3 prime.
 // Returns 0: `count` words are written. 255: no such field. Else the refusal's number, with its place.

@@ -6,9 +6,9 @@ ghost use Rattle.tally.specs.Rows.{sum_in};
 ghost use Rattle.pairs.specs.Difference.{solving_pair, Answered};
 
 use crate::pair_gap::PairGap;
-use field::Field;
+use field::{Field, SUM_LIMIT};
 use refusal::{Limit, Refusal};
-use solve::{Entry, SUM_LIMIT, solve};
+use solve::{Entry, solve};
 use tally::Rows;
 
 // Solves the difference of the stations s and t from their first sums, with at most `weight` codes that are not 0; None where there is none.

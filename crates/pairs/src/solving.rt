@@ -9,9 +9,8 @@ ghost use Rattle.pairs.specs.Solving.{solving_pairs, PairsSolved};
 use crate::difference::solve_pair;
 use crate::pair_gap::PairGap;
 use crate::pair_gaps::PairGaps;
-use field::Field;
+use field::{Field, SUM_LIMIT};
 use refusal::{Limit, Refusal};
-use solve::SUM_LIMIT;
 use tally::{Rows, accept_stations};
 
 // Solves the differences of all pairs of the stations from their first sums, each with at most half as many codes that are not 0 as there are sums.
