@@ -8,7 +8,7 @@ use Rattle.algebra.proofs.Weights.{weight_same}
 use Rattle.algebra.proofs.Codes.{zero_code}
 use Rattle.solve.specs.declared.Entry.{Entry}
 use Rattle.solve.specs.Solution.{Solution}
-use Rattle.solve.specs.Answer.{blank, code_at, Listed, Solved}
+use Rattle.solve.specs.Answer.{blank, code_at, Entries, Solved}
 use Rattle.solve.specs.declared.candidates.Candidate.{Candidate}
 use Rattle.solve.specs.declared.entries.Coded.{Coded}
 use Rattle.solve.specs.Polynomials.{at}
@@ -64,7 +64,7 @@ module _ (f : Ops) (N m : ℕ) (g x v : ℕ → ℕ) (r : Rising f N m g x) (k :
     | inr off ↦ vector_off m g v n off ∙ sym (unlisted n b.0 (λ i c is. let s = h.stands i c in off s.0 s.1 (sym s.2 ∙ is)))
   ]
 
-  listed : k < length list → Listed N k list
+  listed : k < length list → Entries N k list
   listed fits = record {
     fits = fits;
     rising = h.rising;

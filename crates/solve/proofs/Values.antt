@@ -10,7 +10,7 @@ use Rattle.refusal.specs.declared.Refusal.{Refusal}
 use Rattle.refusal.specs.Rules.{Refused}
 use Rattle.solve.specs.declared.Entry.{Entry}
 use Rattle.solve.specs.Solution.{Solution, Enough, solving}
-use Rattle.solve.specs.Answer.{blank, code_at, Listed, Solved}
+use Rattle.solve.specs.Answer.{blank, code_at, Entries, Solved}
 use Rattle.solve.specs.Candidates.{Rising}
 use Rattle.solve.specs.Listing.{Nonzeros}
 use Rattle.solve.proofs.Weighing.{counted_some}
@@ -22,7 +22,7 @@ full : (m : ℕ) (v : ℕ → ℕ) → ((i : ℕ) → i < m → ¬ (v i ≡ 0)) 
 full zero v some = refl
 full (suc m) v some = sym (counted_some (v (suc m - 1)) _ (some (suc m - 1) (omega arith))) ∙ add-one _ ∙ ap suc (full m v (λ i b. some i (omega arith)))
 
-module _ (f : Ops) (N m : ℕ) (list : List Entry) (h : Listed N m list) where
+module _ (f : Ops) (N m : ℕ) (list : List Entry) (h : Entries N m list) where
   rising : Rising f N m (λ i. (get_or list i blank).page) (λ i. power f f.alpha (get_or list i blank).page)
   rising = record { rise = h.rising; page = h.pages; point = λ i b. refl }
 

@@ -14,7 +14,7 @@ code_at [] n = 0
 code_at (x ∷ xs) n = cond (x.page == 0) 0 (cond (x.page == n) x.code (code_at xs n))
 
 -- the first m places are rising pages of 1 to N, none with code 0; the others are blank
-pub record Listed (N m : ℕ) (list : List Entry) : Type 0 where
+pub record Entries (N m : ℕ) (list : List Entry) : Type 0 where
   pub fits : m < length list
   pub rising : (i j : ℕ) → i < j → j < m → (get_or list i blank).page < (get_or list j blank).page
   pub pages : (i : ℕ) → i < m → Page N (get_or list i blank).page
@@ -23,7 +23,7 @@ pub record Listed (N m : ℕ) (list : List Entry) : Type 0 where
 
 -- the list holds the one solution
 pub record Solved (f : Ops) (N t : ℕ) (values : List ℕ) (m : ℕ) (list : List Entry) : Type 0 where
-  pub listed : Listed N m list
+  pub listed : Entries N m list
   pub solves : Solution f N t values (code_at list)
   pub only : (e : ℕ → ℕ) → Solution f N t values e → (n : ℕ) → Page N n → e n ≡ code_at list n
 
