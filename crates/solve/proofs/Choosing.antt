@@ -5,6 +5,7 @@ use Rattle.field.specs.Field.{Ops, power}
 use Rattle.solve.specs.declared.candidates.Candidate.{Candidate}
 use Rattle.solve.specs.Polynomials.{at}
 use Rattle.solve.specs.Candidates.{pages_of, points_of, Roots, FewRoots}
+use Rattle.field.specs.declared.limits.TheConstants.{SUM_LIMIT}
 
 -- what stands in a list with one more at its end
 before_last : (h : Candidate → ℕ) (cs : List Candidate) (c : Candidate) (i : ℕ) → i < length cs → at (map h (cs ++ c ∷ [])) i ≡ at (map h cs) i
@@ -74,7 +75,7 @@ module _ (f : Ops) (q : ℕ → ℕ) (k : ℕ) (cs : List Candidate) (h : Roots 
     }
 
     -- there is room for it
-    pub joined_fits : (N : ℕ) → FewRoots f q N → k < N → length cs < 128
+    pub joined_fits : (N : ℕ) → FewRoots f q N → k < N → length cs < SUM_LIMIT
     joined_fits N few lt =
         let n = long in
         let most = few (length more) (at (pages_of more)) (at (points_of more))

@@ -9,12 +9,14 @@ use Rattle.algebra.proofs.Codes.{codes, zero_code, el, el_plus, el_times, el_inj
 use Rattle.solve.specs.Polynomials.{value, window, Product}
 use Rattle.solve.proofs.Words.{value_code}
 use Rattle.solve.proofs.Windows.{shifted_high, shifted_none, minus_self, minus_none, Difference, window_difference}
+use Rattle.field.specs.declared.limits.TheConstants.{SUM_LIMIT}
+use Rattle.solve.specs.declared.limits.TheConstants.{COEFFICIENTS}
 
 -- p is the product of the first m factors
 pub record Partial (f : Ops) (m : ℕ) (x p : ℕ → ℕ) : Type 0 where
   -- how many places there are: as a field, so that nothing computes with it
   pub n : ℕ
-  pub is : n ≡ 129
+  pub is : n ≡ COEFFICIENTS
   pub monic : p m ≡ 1
   pub high : (i : ℕ) → m < i → i < n → p i ≡ 0
   pub roots : (i : ℕ) → i < m → value f n p 0 (x i) ≡ 0
@@ -44,10 +46,10 @@ module _ {f : Ops} (l : Laws f) where
       (window_powers n p 0 x 1 ∙ ap (λ y. f.times y (value f n p 0 x)) (one_times l x) ∙ times_mod_left l x (value f n p 0 x))
       (window_value n p x)
 
-  pub first : (x p : ℕ → ℕ) → p 0 ≡ 1 → ((i : ℕ) → 0 < i → i < 129 → p i ≡ 0) → Partial f 0 x p
-  first x p one z = record { n = 129; is = refl; monic = one; high = z; roots = λ i b. absurd (omega arith) }
+  pub first : (x p : ℕ → ℕ) → p 0 ≡ 1 → ((i : ℕ) → 0 < i → i < COEFFICIENTS → p i ≡ 0) → Partial f 0 x p
+  first x p one z = record { n = COEFFICIENTS; is = refl; monic = one; high = z; roots = λ i b. absurd (omega arith) }
 
-  pub next : (m : ℕ) (x p r : ℕ → ℕ) → m < 128 → Partial f m x p → Difference f 129 r p 1 (x m) p 0 → Partial f (m + 1) x r
+  pub next : (m : ℕ) (x p r : ℕ → ℕ) → m < SUM_LIMIT → Partial f m x p → Difference f COEFFICIENTS r p 1 (x m) p 0 → Partial f (m + 1) x r
   next m x p r lt h made =
       let n = h.n in
       let is = h.is in
@@ -78,7 +80,7 @@ module _ {f : Ops} (l : Laws f) where
       ap (λ z. value f z p i x) (let e : suc k + m ≡ suc (k + m) = omega arith in e)
       ∙ ap (λ z. f.plus (f.times z x) (p i)) (value_end k m p (suc i) x (λ n b. ap p (let e : suc i + k + n ≡ i + suc k + n = omega arith in e) ∙ h n b))
 
-  pub last : (m : ℕ) (x p : ℕ → ℕ) → m ≤ 128 → Partial f m x p → Product f m x p
+  pub last : (m : ℕ) (x p : ℕ → ℕ) → m ≤ SUM_LIMIT → Partial f m x p → Product f m x p
   last m x p le h = record {
     monic = h.monic;
     roots = λ i u.

@@ -6,12 +6,13 @@ use Rattle.field.proofs.Laws.{code_mod, one_code}
 use Rattle.solve.specs.Polynomials.{at, window, Locates}
 use Rattle.solve.proofs.Words.{window_code}
 use Rattle.solve.proofs.Windows.{shifted_high, shifted_none, minus_self, minus_none, Difference, window_end, window_difference, window_front_of}
+use Rattle.solve.specs.declared.limits.TheConstants.{COEFFICIENTS}
 
 -- p is monic of degree d and clears the windows before k; w is 0 above place k, clears the windows before d - 1, and gives last there
 pub record Held (f : Ops) (t : ℕ) (s p w : ℕ → ℕ) (last d k : ℕ) : Type 0 where
   -- how many places there are: as a field, so that nothing computes with it
   pub n : ℕ
-  pub is : n ≡ 129
+  pub is : n ≡ COEFFICIENTS
   pub short : d ≤ t
   pub reach : k ≤ t
   pub monic : p d ≡ 1
@@ -60,7 +61,7 @@ module _ {f : Ops} (l : Laws f) where
 
     -- p less a multiple of w clears one window more
     pub mend : (p w : ℕ → ℕ) (last d k : ℕ) → Held f t s p w last d k → k < t → k < d → (x : ℕ) → x ≡ window f (suc d) p 0 s k
-        → (r : ℕ → ℕ) → Difference f 129 r p 0 (f.times x (f.inverse last)) w (d - 1 - k) → Held f t s r w last d (k + 1)
+        → (r : ℕ → ℕ) → Difference f COEFFICIENTS r p 0 (f.times x (f.inverse last)) w (d - 1 - k) → Held f t s r w last d (k + 1)
     mend p w last d k h lt lt2 x ex r made =
         let n = h.n in
         let is = h.is in
@@ -93,7 +94,7 @@ module _ {f : Ops} (l : Laws f) where
 
     -- p moved up, less a multiple of w, takes the place of p, and p that of w
     pub grow : (p w : ℕ → ℕ) (last d k : ℕ) → Held f t s p w last d k → k < t → d ≤ k → (x : ℕ) → x ≡ window f (suc d) p 0 s k → ¬ (x ≡ 0)
-        → (r : ℕ → ℕ) → Difference f 129 r p (k + 1 - d) (f.times x (f.inverse last)) w 0 → Held f t s r p x (k + 1) d
+        → (r : ℕ → ℕ) → Difference f COEFFICIENTS r p (k + 1 - d) (f.times x (f.inverse last)) w 0 → Held f t s r p x (k + 1) d
     grow p w last d k h lt le x ex some r made =
         let n = h.n in
         let is = h.is in
@@ -125,9 +126,9 @@ module _ {f : Ops} (l : Laws f) where
         }
 
     -- 1 and 0 clear no window
-    pub start : (p w : ℕ → ℕ) → p 0 ≡ 1 → ((i : ℕ) → 0 < i → i < 129 → p i ≡ 0) → ((i : ℕ) → i < 129 → w i ≡ 0) → Held f t s p w 1 0 0
+    pub start : (p w : ℕ → ℕ) → p 0 ≡ 1 → ((i : ℕ) → 0 < i → i < COEFFICIENTS → p i ≡ 0) → ((i : ℕ) → i < COEFFICIENTS → w i ≡ 0) → Held f t s p w 1 0 0
     start p w one zp zw = record {
-      n = 129;
+      n = COEFFICIENTS;
       is = refl;
       short = omega arith;
       reach = omega arith;

@@ -5,9 +5,10 @@ use Rattle.solve.specs.Candidates.{points_of}
 use Rattle.solve.proofs.Products.{first, next, last}
 use Rattle.solve.proofs.Arrays.{one_first}
 use Rattle.solve.proofs.entries.product.Goals as goal
+use Rattle.solve.specs.declared.limits.TheConstants.{COEFFICIENTS}
 
 pub loop-candidate-init : goal.loop-candidate-init
-loop-candidate-init g c = first g.met.F.Field.lawful (at (points_of c.args.candidates.now)) (at (set (replicate 129 0) 0 1)) refl (one_first 129)
+loop-candidate-init g c = first g.met.F.Field.lawful (at (points_of c.args.candidates.now)) (at (set (replicate COEFFICIENTS 0) 0 1)) refl (one_first COEFFICIENTS)
 
 pub loop-candidate-preserved : goal.loop-candidate-preserved
 loop-candidate-preserved g c =

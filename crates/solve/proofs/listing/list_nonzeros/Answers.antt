@@ -9,6 +9,7 @@ use Rattle.std.proofs.lemmas.List.{length-map}
 use Rattle.solve.proofs.Coding.{page_is, code_is}
 use Rattle.solve.proofs.listing.list_nonzeros.Goals as goal
 use Rattle.solve.proofs.listing.list_nonzeros.Goals.{then-term-ne0, else-term-ne0}
+use Rattle.solve.specs.declared.limits.TheConstants.{LIST_SIZE}
 
 blanks : (n i : ℕ) → get_or (replicate n blank) i blank ≡ blank
 blanks zero i = refl
@@ -30,7 +31,7 @@ left m k k' g v list list' h ek el = subst (λ (n : ℕ). Nonzeros m g v n list'
 pub loop-term-init : goal.loop-term-init
 loop-term-init c = record {
   long = refl;
-  listed = none_listed (at (pages_of (candidates_of c.as_slice-coded.result.now))) (at (codes_of c.as_slice-coded.result.now)) (replicate 129 blank) (blanks 129);
+  listed = none_listed (at (pages_of (candidates_of c.as_slice-coded.result.now))) (at (codes_of c.as_slice-coded.result.now)) (replicate LIST_SIZE blank) (blanks LIST_SIZE);
 }
 
 pub loop-term-preserved : goal.loop-term-preserved

@@ -6,13 +6,14 @@ use Rattle.solve.proofs.Windows.{window_cut}
 use Rattle.solve.proofs.Search.{start, stay, mend, grow, done}
 use Rattle.solve.proofs.Arrays.{one_first}
 use Rattle.solve.proofs.locator.locate.Goals as goal
+use Rattle.solve.specs.declared.limits.TheConstants.{COEFFICIENTS}
 
 scaled : (f : Ops) (x i y last u v : ℕ) → i ≡ f.inverse last → y ≡ f.times x i → f.minus u (f.times y v) ≡ f.minus u (f.times (f.times x (f.inverse last)) v)
 scaled f x i y last u v ei ey = ap (λ z. f.minus u (f.times z v)) (ey ∙ ap (f.times x) ei)
 
 pub loop-cleared-init : goal.loop-cleared-init
 loop-cleared-init g c =
-    start g.met.F.Field.lawful c.args.weight c.requires.light (at c.args.values.now) (at (set (replicate 129 0) 0 1)) (at (replicate 129 0)) refl (one_first 129) (λ i hi. get_or-replicate 129 i 0 0 hi)
+    start g.met.F.Field.lawful c.args.weight c.requires.light (at c.args.values.now) (at (set (replicate COEFFICIENTS 0) 0 1)) (at (replicate COEFFICIENTS 0)) refl (one_first COEFFICIENTS) (λ i hi. get_or-replicate COEFFICIENTS i 0 0 hi)
 
 pub loop-cleared-preserved-then-discrepancy-eq0 : goal.loop-cleared-preserved-then-discrepancy-eq0
 loop-cleared-preserved-then-discrepancy-eq0 g c =
