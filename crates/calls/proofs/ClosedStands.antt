@@ -13,6 +13,7 @@ use Rattle.tally.specs.Rows.{sum_in, signature_in, sum_place, Filled}
 use Rattle.calls.specs.declared.terms.Terms.{Terms}
 use Rattle.calls.specs.declared.phases.Verdict.{Verdict}
 use Rattle.calls.specs.declared.phases.Verdict.TheVariants.{Report, Split, Over}
+use Rattle.calls.specs.declared.phases.Way.TheVariants.{ByWeighing, BySettling}
 use Rattle.calls.specs.Questions.{PlainTerms}
 use Rattle.calls.specs.Closing.{WeighEnds, SettleEnds, Finds}
 use Rattle.calls.specs.Runs.{Stage, first, second, closed, Call}
@@ -69,9 +70,9 @@ pub signatures_plain : (t : Terms) (g : Stage) (s i : ℕ) → AskedFor t g Sign
 signatures_plain t first s i d = first_plain t i d
 signatures_plain t (second k) s i (inl d) = first_plain t i d
 signatures_plain t (second k) s i (inr d) = absurd (second_sums t k s i d)
-signatures_plain t (closed None v) s i d = first_plain t i d
-signatures_plain t (closed (Some k) v) s i (inl d) = first_plain t i d
-signatures_plain t (closed (Some k) v) s i (inr d) = absurd (second_sums t k s i d)
+signatures_plain t (closed ByWeighing v) s i d = first_plain t i d
+signatures_plain t (closed (BySettling k) v) s i (inl d) = first_plain t i d
+signatures_plain t (closed (BySettling k) v) s i (inr d) = absurd (second_sums t k s i d)
 
 module _ (f : Ops) (own : List ℕ) (t : Terms) (ks : List Call)
     (due : (a : Asked) (s i v : ℕ) → Replied ks a s i v → Within 2 t.stations s × Index a t.pages i)

@@ -10,6 +10,7 @@ use Rattle.calls.specs.declared.standing.Standing.TheVariants.{Heard as Took}
 use Rattle.calls.specs.declared.terms.Terms.{Terms}
 use Rattle.calls.specs.declared.question.Question.{Question}
 use Rattle.calls.specs.declared.slip.Slip.{Slip}
+use Rattle.calls.specs.declared.phases.Way.TheVariants.{ByWeighing, BySettling}
 use Rattle.calls.specs.Standings.{standing_of}
 use Rattle.calls.specs.Runs.{Stage, first, second, closed, Call, take, AsksOnly}
 use Rattle.calls.specs.Replies.{Gives, Replied, RepliedTo, FirstReplied, AllReplied, FirstAsked, SecondAsked, AskedFor}
@@ -36,8 +37,8 @@ module _ (ks more : List Call) (up : More ks more) where
   all_more : (t : Terms) (g : Stage) → AllReplied ks t g → AllReplied more t g
   all_more t first h = tt
   all_more t (second k) h = first_more t h
-  all_more t (closed None v) h = first_more t h
-  all_more t (closed (Some k) v) h = (first_more t h.0, replied_to_more Sums k _ _ h.1)
+  all_more t (closed ByWeighing v) h = first_more t h
+  all_more t (closed (BySettling k) v) h = (first_more t h.0, replied_to_more Sums k _ _ h.1)
 
 pub record Heard (t : Terms) (q : Question) (xs : List Standing) (g : Stage) (ks : List Call) : Type 0 where
   pub due : (a : Asked) (s i v : ℕ) → Replied ks a s i v → Within 2 t.stations s × AskedFor t g a s i
@@ -51,7 +52,7 @@ asked_now : (t : Terms) (q : Question) (g : Stage) (only : Option ℕ) → AsksO
 asked_now t q first only o (inl x) a s i here is w = inl (x.0, is ∙ x.1.0, omega (arith, w, x.1.1, x.1.2))
 asked_now t q first only o (inr x) a s i here is w = inr (x.0, is ∙ x.1.0, omega (arith, w, x.1.1, x.1.2))
 asked_now t q (second k) only o x a s i here is w = inr (here, is ∙ x.2.0, omega (arith, w, x.2.1, x.2.2))
-asked_now t q (closed again v) only o x a s i here is w = absurd o
+asked_now t q (closed way v) only o x a s i here is w = absurd o
 
 -- what is asked for may be
 first_index : (t : Terms) (a : Asked) (i : ℕ) → FirstAsked t a i → Index a t.pages i
@@ -66,9 +67,9 @@ pub due_index : (t : Terms) (g : Stage) (a : Asked) (s i : ℕ) → AskedFor t g
 due_index t first a s i d = first_index t a i d
 due_index t (second k) a s i (inl d) = first_index t a i d
 due_index t (second k) a s i (inr d) = second_index t k a s i d
-due_index t (closed None v) a s i d = first_index t a i d
-due_index t (closed (Some k) v) a s i (inl d) = first_index t a i d
-due_index t (closed (Some k) v) a s i (inr d) = second_index t k a s i d
+due_index t (closed ByWeighing v) a s i d = first_index t a i d
+due_index t (closed (BySettling k) v) a s i (inl d) = first_index t a i d
+due_index t (closed (BySettling k) v) a s i (inr d) = second_index t k a s i d
 
 module _ (t : Terms) (q : Question) (g : Stage) where
   -- nothing is replied

@@ -11,6 +11,8 @@ use Rattle.calls.specs.declared.terms.Terms.{Terms}
 use Rattle.calls.specs.declared.question.Question.{Question}
 use Rattle.calls.specs.declared.book.Book.{Book}
 use Rattle.calls.specs.declared.phases.Verdict.{Verdict}
+use Rattle.calls.specs.declared.phases.Way.{Way}
+use Rattle.calls.specs.declared.phases.Way.TheVariants.{ByWeighing, BySettling}
 use Rattle.calls.specs.Questions.{PlainTerms, FirstAsks}
 use Rattle.calls.specs.Slips.{standing, standing_after}
 use Rattle.calls.specs.Closing.{WeighAsks}
@@ -42,10 +44,10 @@ pub seconds_replied : (t : Terms) (b : Book) (k : ℕ) (ks : List Call) → Stag
     → SecondReplied ks t k
 seconds_replied t b k ks a h done = replied_as ks k a.2.0 a.2.1 a.2.2 (h.heard k a.1 refl (ap reply_in done))
 
-closed_heard : {t : Terms} {q : Question} {xs : List Standing} {g : Stage} {ks : List Call} (again : Option ℕ) (v : Verdict)
-    → ((a : Asked) (s i : ℕ) → AskedFor t g a s i → AskedFor t (closed again v) a s i) → AllReplied ks t (closed again v)
-    → Heard t q xs g ks → Heard t q xs (closed again v) ks
-closed_heard again v asked all h = record {
+closed_heard : {t : Terms} {q : Question} {xs : List Standing} {g : Stage} {ks : List Call} (way : Way) (v : Verdict)
+    → ((a : Asked) (s i : ℕ) → AskedFor t g a s i → AskedFor t (closed way v) a s i) → AllReplied ks t (closed way v)
+    → Heard t q xs g ks → Heard t q xs (closed way v) ks
+closed_heard way v asked all h = record {
   due = λ a s i v r. let d = h.due a s i v r in (d.0, asked a s i d.1);
   none = λ s i v asked. absurd asked;
   heard = λ s w asked. absurd asked;
@@ -60,7 +62,7 @@ asked_here f b (second k) shape s w off only asked = elim (ℕ_discrete k s) [
   | yes e ↦ e
   | no d ↦ absurd (off (shape.others s w d))
 ]
-asked_here f b (closed again v) shape s w off only asked = absurd asked
+asked_here f b (closed way v) shape s w off only asked = absurd asked
 
 module _ (f : Ops) (l : Laws f) (spread : Spread f) (b : Book) (ks : List Call) where
   with_question : (b' : Book) {g : Stage} {ks' : List Call} → b'.question ≡ b.question → Heard b.terms b.question b'.standings g ks' → Hears b.terms b' g ks'
@@ -115,15 +117,15 @@ module _ (f : Ops) (l : Laws f) (spread : Spread f) (b : Book) (ks : List Call) 
       (reply_stays (standing b s) r x.0.0.1 x.1.says) h))
   step_heard (returns {b' = b'} {g = g} {r = Err e} x) shape h = quiet b.terms b'.question g b'.standings ks _ (λ a s i v r. r) (with_book x.1 h)
   step_heard (weigh_closes {b' = b'} {v = v} {t = t} x) shape h =
-      quiet b.terms b'.question (closed None v) b'.standings ks _ (λ a s i v r. r)
-      (with_book x.book (closed_heard None v (λ a s i d. d) (firsts_replied b.terms b ks shape.question (all_done b (length t) x.accepted) h) h))
+      quiet b.terms b'.question (closed ByWeighing v) b'.standings ks _ (λ a s i v r. r)
+      (with_book x.book (closed_heard ByWeighing v (λ a s i d. d) (firsts_replied b.terms b ks shape.question (all_done b (length t) x.accepted) h) h))
   step_heard (weigh_asks {b' = b'} {k = k} {t = t} {t' = t'} x) shape h =
       quiet b.terms b'.question (second k) b'.standings ks _ (λ a s i v r. r) (asked_now k b' t t' x shape h)
   step_heard (weigh_refused {b' = b'} e x) shape h = quiet b.terms b'.question first b'.standings ks _ (λ a s i v r. r) (with_book x.1 h)
   step_heard (settle_closes {b' = b'} {k = k} {v = v} {t = t} x) shape h =
       let done = all_done b (length t) x.accepted k shape.question.1 in
-      quiet b.terms b'.question (closed (Some k) v) b'.standings ks _ (λ a s i v r. r)
-      (with_book x.book (closed_heard (Some k) v (λ a s i d. d) (h.ended, seconds_replied b.terms b k ks shape.question h done) h))
+      quiet b.terms b'.question (closed (BySettling k) v) b'.standings ks _ (λ a s i v r. r)
+      (with_book x.book (closed_heard (BySettling k) v (λ a s i d. d) (h.ended, seconds_replied b.terms b k ks shape.question h done) h))
   step_heard (settle_refused {b' = b'} {k = k} e x) shape h = quiet b.terms b'.question (second k) b'.standings ks _ (λ a s i v r. r) (with_book x.1 h)
   step_heard (lists {g = g} x) shape h = quiet b.terms b.question g b.standings ks _ (λ a s i v r. r) h
 

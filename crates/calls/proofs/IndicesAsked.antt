@@ -20,7 +20,7 @@ question_indices t q first only o (inr (not, about)) =
     (λ i w. omega (arith, about.1, about.2, first_sums_between t.stations t.bound t.bound_in.0, t.bound_in.1))
 question_indices t q (second k) only o (not, station, about) =
     indices_of q.asked Sums t.pages q.first q.last about.0 (λ i w. omega (arith, about.1, about.2, t.bound_in.1))
-question_indices t q (closed again v) only o h = absurd o
+question_indices t q (closed way v) only o h = absurd o
 
 pub request_indices : (t : Terms) (q : Question) (g : Stage) (only : Option ℕ) → AsksOnly g only → StageAsks t g q → (r : Request)
     → (r.asked ≡ q.asked) × (r.first ≡ q.first) × (r.last ≡ q.last) → Indices r.asked t.pages r.first r.last

@@ -18,6 +18,8 @@ use Rattle.tally.specs.Rows.{sum_in, signature_in}
 use Rattle.calls.specs.declared.terms.Terms.{Terms}
 use Rattle.calls.specs.declared.phases.Verdict.{Verdict}
 use Rattle.calls.specs.declared.phases.Verdict.TheVariants.{Report, Split, Over}
+use Rattle.calls.specs.declared.phases.Way.{Way}
+use Rattle.calls.specs.declared.phases.Way.TheVariants.{ByWeighing, BySettling}
 use Rattle.calls.specs.Closing.{WeighsBy, ClosesBy}
 use Rattle.calls.specs.Runs.{closed, Call}
 use Rattle.calls.specs.Replies.{AsTold, Unfilled, ClosedAs, AsksBy, SettlesBy, JudgedBy, SameFarm, RepliesDecide}
@@ -105,16 +107,16 @@ module _ (f : Ops) (l : Laws f) (spread : Spread f) (t : Terms) (pages : Within 
         let b = ends_as t Ends tally' v' y in
         alike_ends t tally tally' row v v' (one a.0 b.0 a.1 b.1) a.2 b.2
 
-    judged_one : (again again' : Option ℕ) (v v' : Verdict) → JudgedBy f t T P tally (closed again v) → JudgedBy f t T P tally' (closed again' v')
-        → (again ≡ again') × (v ≡ v') × Same t.stations t.pages (signature_in tally t.pages) (signature_in tally' t.pages)
-    judged_one None None v v' x y = let c = closings (WeighsBy f t T P) weighs_one v v' x y in (refl, c.0, c.1)
-    judged_one None (Some k) v v' x y = absurd (let a = ends_as t (WeighsBy f t T P) tally v x in not_asked k y.0 tally v a.0 a.1 a.2)
-    judged_one (Some k) None v v' x y = absurd (let a = ends_as t (WeighsBy f t T P) tally' v' y in not_asked k x.0 tally' v' a.0 a.1 a.2)
-    judged_one (Some k) (Some j) v v' x y =
+    judged_one : (way way' : Way) (v v' : Verdict) → JudgedBy f t T P tally (closed way v) → JudgedBy f t T P tally' (closed way' v')
+        → (way ≡ way') × (v ≡ v') × Same t.stations t.pages (signature_in tally t.pages) (signature_in tally' t.pages)
+    judged_one ByWeighing ByWeighing v v' x y = let c = closings (WeighsBy f t T P) weighs_one v v' x y in (refl, c.0, c.1)
+    judged_one ByWeighing (BySettling k) v v' x y = absurd (let a = ends_as t (WeighsBy f t T P) tally v x in not_asked k y.0 tally v a.0 a.1 a.2)
+    judged_one (BySettling k) ByWeighing v v' x y = absurd (let a = ends_as t (WeighsBy f t T P) tally' v' y in not_asked k x.0 tally' v' a.0 a.1 a.2)
+    judged_one (BySettling k) (BySettling j) v v' x y =
         let e = alike_asks (asks k) (weigh_one (asks k) (asks j) x.0.1 y.0.1) in
         let same : k ≡ j = cc e in
         let c = closings (SettlesBy f t T P) settles_one v v' x.1 y.1 in
-        (ap (λ k. Some k) same, c.0, c.1)
+        (ap (λ k. BySettling k) same, c.0, c.1)
 
 -- ── on the same terms
 module _ (t t' : Terms) (same : SameFarm t t') where
@@ -130,44 +132,44 @@ module _ (t t' : Terms) (same : SameFarm t t') where
     signatures = h.signatures;
   }
 
-  judged_at : (f : Ops) (T P : Table) (tally : List ℕ) (again : Option ℕ) (v : Verdict) → JudgedBy f t' T P tally (closed again v)
-      → JudgedBy f t T P tally (closed again v)
-  judged_at f T P tally None v x =
+  judged_at : (f : Ops) (T P : Table) (tally : List ℕ) (way : Way) (v : Verdict) → JudgedBy f t' T P tally (closed way v)
+      → JudgedBy f t T P tally (closed way v)
+  judged_at f T P tally ByWeighing v x =
       by_same
       (λ M N bound. ClosesBy M N
       (λ o. ((R : Table) × (o ≡ filled R) × Plain M N bound × Same M N R P) ⊎ ((¬ Plain M N bound) × Weighs f M N bound T (P 1) o))
       ((s n : ℕ) → Within 2 M s → Page N n → signature_in tally N s n ≡ 0) (Same M N (signature_in tally N)) v)
       x
-  judged_at f T P tally (Some k) v x =
+  judged_at f T P tally (BySettling k) v x =
       by_same
       (λ M N bound. ((¬ Plain M N bound) × Weighs f M N bound T (P 1) (asks k))
       × ClosesBy M N (λ o. Settles f M N bound T T (P 1) o) ((s n : ℕ) → Within 2 M s → Page N n → signature_in tally N s n ≡ 0) (Same M N (signature_in tally N)) v)
       x
 
 pub replies_decide : RepliesDecide
-replies_decide f l spread own ks ks' b b' again again' v v' last last' x y same among =
+replies_decide f l spread own ks ks' b b' way way' v v' last last' x y same among =
     (r.0, r.1, subst (λ N. Same b.terms.stations b.terms.pages (signature_in last' N) (signature_in last b.terms.pages)) (sym same.1) r.2)
   where
     told : AsTold f own b.terms ks (sum_in last b.terms.pages) (signature_in last b.terms.pages)
-    told = ((replies_judged f l spread own x.opened ks b (closed again v) x.run).2 last x.one).0
+    told = ((replies_judged f l spread own x.opened ks b (closed way v) x.run).2 last x.one).0
 
     told' : AsTold f own b'.terms ks' (sum_in last' b'.terms.pages) (signature_in last' b'.terms.pages)
-    told' = ((replies_judged f l spread own y.opened ks' b' (closed again' v') y.run).2 last' y.one).0
+    told' = ((replies_judged f l spread own y.opened ks' b' (closed way' v') y.run).2 last' y.one).0
 
-    judged : JudgedBy f b.terms (sum_in last b.terms.pages) (signature_in last b.terms.pages) last (closed again v)
-    judged = ((replies_judged f l spread own x.opened ks b (closed again v) x.run).2 last x.one).1 (sum_in last b.terms.pages) (signature_in last b.terms.pages) told
+    judged : JudgedBy f b.terms (sum_in last b.terms.pages) (signature_in last b.terms.pages) last (closed way v)
+    judged = ((replies_judged f l spread own x.opened ks b (closed way v) x.run).2 last x.one).1 (sum_in last b.terms.pages) (signature_in last b.terms.pages) told
 
-    judged' : JudgedBy f b.terms (sum_in last b.terms.pages) (signature_in last b.terms.pages) last' (closed again' v')
+    judged' : JudgedBy f b.terms (sum_in last b.terms.pages) (signature_in last b.terms.pages) last' (closed way' v')
     judged' =
-        judged_at b.terms b'.terms same f (sum_in last b.terms.pages) (signature_in last b.terms.pages) last' again' v'
-        (((replies_judged f l spread own y.opened ks' b' (closed again' v') y.run).2 last' y.one).1 (sum_in last b.terms.pages) (signature_in last b.terms.pages)
+        judged_at b.terms b'.terms same f (sum_in last b.terms.pages) (signature_in last b.terms.pages) last' way' v'
+        (((replies_judged f l spread own y.opened ks' b' (closed way' v') y.run).2 last' y.one).1 (sum_in last b.terms.pages) (signature_in last b.terms.pages)
         (told_at b.terms b'.terms same f own ks' (sum_in last b.terms.pages) (signature_in last b.terms.pages)
         (fewer_told f own b.terms ks' ks (sum_in last b.terms.pages) (signature_in last b.terms.pages) among told)))
 
     row : (n : ℕ) → Page b.terms.pages n → signature_in last' b.terms.pages 1 n ≡ signature_in last b.terms.pages 1 n
     row n p = subst (λ N. (n : ℕ) → Page N n → signature_in last' N 1 n ≡ entry own n) same.1 told'.own_row n p ∙ sym (told.own_row n p)
 
-    r : (again' ≡ again) × (v' ≡ v) × Same b.terms.stations b.terms.pages (signature_in last' b.terms.pages) (signature_in last b.terms.pages)
+    r : (way' ≡ way) × (v' ≡ v) × Same b.terms.stations b.terms.pages (signature_in last' b.terms.pages) (signature_in last b.terms.pages)
     r =
-        judged_one f l spread b.terms (shape_kept f l spread own x.opened ks b (closed again v) x.run).pages (sum_in last b.terms.pages)
-        (signature_in last b.terms.pages) last' last row again' again v' v judged' judged
+        judged_one f l spread b.terms (shape_kept f l spread own x.opened ks b (closed way v) x.run).pages (sum_in last b.terms.pages)
+        (signature_in last b.terms.pages) last' last row way' way v' v judged' judged

@@ -9,6 +9,7 @@ use Rattle.tally.specs.Rows.{sum_in, signature_in}
 use Rattle.calls.specs.declared.terms.Terms.{Terms}
 use Rattle.calls.specs.declared.question.Question.{Question}
 use Rattle.calls.specs.declared.book.Book.{Book}
+use Rattle.calls.specs.declared.phases.Way.TheVariants.{ByWeighing, BySettling}
 use Rattle.calls.specs.Questions.{PlainTerms}
 use Rattle.calls.specs.Slips.{standing}
 use Rattle.calls.specs.Closing.{WeighEnds, SettleEnds, WeighsBy}
@@ -31,7 +32,7 @@ use Rattle.calls.proofs.JudgedBy.{closes_as, over_not_plain, split_not_plain, we
 abbrev NoneYet : Terms → Stage → (tally : List ℕ) → Type 0
 NoneYet t first tally = (¬ PlainTerms t) → Unfilled t tally
 NoneYet t (second k) tally = Unfilled t tally
-NoneYet t (closed again v) tally = Unit {0}
+NoneYet t (closed way v) tally = Unit {0}
 
 -- the rows are as told, and what is judged is judged by any tables that are
 abbrev Moment : Ops → (own : List ℕ) → Terms → Stage → List Call → (tally : List ℕ) → Type 0
@@ -42,7 +43,7 @@ still_none : (t : Terms) (q : Question) (g : Stage) (only : Option ℕ) → Asks
 still_none t q first only asked (inl x) before after keeps none = λ not. absurd (not x.0)
 still_none t q first only asked (inr x) before after keeps none = λ not. keeps x.1.0 (none not)
 still_none t q (second k) only asked x before after keeps none = keeps x.2.0 none
-still_none t q (closed again v) only asked x before after keeps none = tt
+still_none t q (closed way v) only asked x before after keeps none = tt
 
 module _ (f : Ops) (l : Laws f) (spread : Spread f) (own : List ℕ) where
   module _ (b : Book) (ks : List Call) where
@@ -60,7 +61,7 @@ module _ (f : Ops) (l : Laws f) (spread : Spread f) (own : List ℕ) where
         → JudgedBy f b.terms T P after g
     still_judged first only asked T P tally after j = tt
     still_judged (second k) only asked T P tally after j = j
-    still_judged (closed again v) only asked T P tally after j = absurd asked
+    still_judged (closed way v) only asked T P tally after j = absurd asked
 
     module _ (g : Stage) (h : Hears b.terms b g ks) where
       due_here : (a : Asked) (s i v : ℕ) → Replied ks a s i v → Within 2 b.terms.stations s × Index a b.terms.pages i
@@ -94,7 +95,7 @@ module _ (f : Ops) (l : Laws f) (spread : Spread f) (own : List ℕ) where
     step_judged tally (weigh_closes {v = v} {t = t} {t' = t'} x) shape h before last (is, one) =
         let m = before t one in
         let done = firsts_replied b.terms b ks shape.question (all_done b (length t) x.accepted) h in
-        quiet (closed None v) _ t' last (λ a s i v r. r) is (
+        quiet (closed ByWeighing v) _ t' last (λ a s i v r. r) is (
           finds_stands f own b.terms ks (due_here first h) (plain_here first h) t t' m.0 (WeighEnds f b.terms t)
               (weigh_keeps f b.terms t) v x.finds,
           tt,
@@ -116,7 +117,7 @@ module _ (f : Ops) (l : Laws f) (spread : Spread f) (own : List ℕ) where
     step_judged tally (settle_closes {b' = b'} {k = k} {v = v} {t = t} {t' = t'} x) shape h before last (is, one) =
         let m = before t one in
         let seconds = seconds_replied b.terms b k ks shape.question h (all_done b (length t) x.accepted k shape.question.1) in
-        quiet (closed (Some k) v) _ t' last (λ a s i v r. r) is (
+        quiet (closed (BySettling k) v) _ t' last (λ a s i v r. r) is (
           finds_stands f own b.terms ks (due_here (second k) h) (plain_here (second k) h) t t' m.0 (SettleEnds f b.terms t)
               (settle_keeps f b.terms t shape.question.0) v x.finds,
           tt,

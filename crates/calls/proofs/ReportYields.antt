@@ -16,6 +16,7 @@ use Rattle.scheme.proofs.Rows.{coded}
 use Rattle.tally.specs.Rows.{sum_in, signature_in}
 use Rattle.calls.specs.declared.terms.Terms.{Terms}
 use Rattle.calls.specs.declared.phases.Verdict.TheVariants.{Report}
+use Rattle.calls.specs.declared.phases.Way.TheVariants.{ByWeighing, BySettling}
 use Rattle.calls.specs.Questions.{PlainTerms}
 use Rattle.calls.specs.Closing.{WeighsBy}
 use Rattle.calls.specs.Runs.{closed, Call}
@@ -102,11 +103,11 @@ module _ (f : Ops) (l : Laws f) (spread : Spread f) (own : List ℕ) (t : Terms)
         (subst (λ x. x < f.size) (sym (told.sums k j v r)) (small Sums k j v r))
         ∙ told.sums k j v r
 
-  weighed_yields : OnlyReplied f ks t (closed None Report) → WeighsBy f t T P (filled R) → YieldsAll f own t ks P
+  weighed_yields : OnlyReplied f ks t (closed ByWeighing Report) → WeighsBy f t T P (filled R) → YieldsAll f own t ks P
   weighed_yields only (inl x) = plain_yields x.2 (λ s j v r. (only Sums s j v r).1)
   weighed_yields only (inr (not, w)) = filled_yields not (inl w) (λ s j v r. let o = only Sums s j v r in first_sum not (inl w) s j v o.0 r o.1)
 
-  settled_yields : (k : ℕ) → OnlyReplied f ks t (closed (Some k) Report) → AsksBy f t T P k → SettlesBy f t T P (filled R) → YieldsAll f own t ks P
+  settled_yields : (k : ℕ) → OnlyReplied f ks t (closed (BySettling k) Report) → AsksBy f t T P k → SettlesBy f t T P (filled R) → YieldsAll f own t ks P
   settled_yields k only a x = filled_yields a.0 (inr x) (λ s j v r. let o = only Sums s j v r in elim o.1 [
     | inl y ↦ first_sum a.0 (inr x) s j v o.0 r y
     | inr y ↦
@@ -115,15 +116,15 @@ module _ (f : Ops) (l : Laws f) (spread : Spread f) (own : List ℕ) (t : Terms)
   ])
 
 pub report_yields : ReportYields
-report_yields f l spread own ks b None last x codes =
-    let r = replies_judged f l spread own x.opened ks b (closed None Report) x.run in
+report_yields f l spread own ks b ByWeighing last x codes =
+    let r = replies_judged f l spread own x.opened ks b (closed ByWeighing Report) x.run in
     let at = r.2 last x.one in
     let closes = at.1 (sum_in last b.terms.pages) (signature_in last b.terms.pages) at.0 in
-    weighed_yields f l spread own b.terms (shape_kept f l spread own x.opened ks b (closed None Report) x.run).pages ks (sum_in last b.terms.pages)
+    weighed_yields f l spread own b.terms (shape_kept f l spread own x.opened ks b (closed ByWeighing Report) x.run).pages ks (sum_in last b.terms.pages)
     (signature_in last b.terms.pages) at.0 codes (λ a s i v y. (r.1 a s i v y).2) r.0 closes.0 closes.2 r.1 closes.1
-report_yields f l spread own ks b (Some k) last x codes =
-    let r = replies_judged f l spread own x.opened ks b (closed (Some k) Report) x.run in
+report_yields f l spread own ks b (BySettling k) last x codes =
+    let r = replies_judged f l spread own x.opened ks b (closed (BySettling k) Report) x.run in
     let at = r.2 last x.one in
     let closes = at.1 (sum_in last b.terms.pages) (signature_in last b.terms.pages) at.0 in
-    settled_yields f l spread own b.terms (shape_kept f l spread own x.opened ks b (closed (Some k) Report) x.run).pages ks (sum_in last b.terms.pages)
+    settled_yields f l spread own b.terms (shape_kept f l spread own x.opened ks b (closed (BySettling k) Report) x.run).pages ks (sum_in last b.terms.pages)
     (signature_in last b.terms.pages) at.0 codes (λ a s i v y. (r.1 a s i v y).2) r.0.0 closes.1.0 closes.1.2 k r.1 closes.0 closes.1.1

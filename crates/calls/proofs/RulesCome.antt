@@ -8,6 +8,8 @@ use Rattle.tally.specs.Rows.{signature_in}
 use Rattle.calls.specs.declared.terms.Terms.{Terms}
 use Rattle.calls.specs.declared.phases.Verdict.{Verdict}
 use Rattle.calls.specs.declared.phases.Verdict.TheVariants.{Report, Split, Over}
+use Rattle.calls.specs.declared.phases.Way.{Way}
+use Rattle.calls.specs.declared.phases.Way.TheVariants.{ByWeighing, BySettling}
 use Rattle.calls.specs.Runs.{closed}
 use Rattle.calls.specs.Closing.{WeighsBy}
 use Rattle.calls.specs.Replies.{AsksBy, SettlesBy, ClosedAs, JudgedBy}
@@ -47,6 +49,6 @@ module _ (f : Ops) (t : Terms) (T P : Table) where
   ended Ends come tally (Split n) (inr x) = inr (x.0, come (filled x.0) x.1, x.3)
   ended Ends come tally Report x = (x.0, (come (filled x.0) x.1, x.3), x.2)
 
-  pub rules_come : (tally : List ℕ) (again : Option ℕ) (v : Verdict) → JudgedBy f t T P tally (closed again v) → Ended tally v
-  rules_come tally None v x = ended (WeighsBy f t T P) weighs_come tally v x
-  rules_come tally (Some k) v x = ended (SettlesBy f t T P) (settles_come k x.0) tally v x.1
+  pub rules_come : (tally : List ℕ) (way : Way) (v : Verdict) → JudgedBy f t T P tally (closed way v) → Ended tally v
+  rules_come tally ByWeighing v x = ended (WeighsBy f t T P) weighs_come tally v x
+  rules_come tally (BySettling k) v x = ended (SettlesBy f t T P) (settles_come k x.0) tally v x.1

@@ -11,6 +11,8 @@ use Rattle.calls.specs.declared.book.Book.{Book}
 use Rattle.calls.specs.Questions.{PlainTerms, SecondAsks}
 use Rattle.calls.specs.Standings.{SlipOut}
 use Rattle.calls.specs.declared.phases.Verdict.{Verdict}
+use Rattle.calls.specs.declared.phases.Way.{Way}
+use Rattle.calls.specs.declared.phases.Way.TheVariants.{ByWeighing, BySettling}
 use Rattle.calls.specs.Slips.{standing, standing_after, Keeps}
 use Rattle.calls.specs.Closing.{closing}
 use Rattle.calls.specs.Runs.{Stage, closed, Call, Step, Run, slips, takes, returns, weigh_closes, weigh_asks, weigh_refused, settle_closes, settle_refused, lists, opened, called}
@@ -53,9 +55,9 @@ module _ (f : Ops) where
   slip_moved {b} s x keeps is out h = moved s x keeps is (h.stations s (not_free (standing b s) out)) (not_done (standing b s) out) h
 
   -- a check closes where every reply is in
-  closes : {b b' : Book} {g : Stage} (again : Option ℕ) (v : Verdict) (room : ℕ) → b' ≡ b → Accepted (closing b room) → Shape f b g → Shape f b' (closed again v)
-  closes {b} again v room is accepted h =
-      let here : Shape f b (closed again v) = record { pages = h.pages; question = tt; stations = h.stations; others = λ s within _. all_done b room accepted s within } in
+  closes : {b b' : Book} {g : Stage} (way : Way) (v : Verdict) (room : ℕ) → b' ≡ b → Accepted (closing b room) → Shape f b g → Shape f b' (closed way v)
+  closes {b} way v room is accepted h =
+      let here : Shape f b (closed way v) = record { pages = h.pages; question = tt; stations = h.stations; others = λ s within _. all_done b room accepted s within } in
       stays is here
 
   module _ (laws : Laws f) (spread : Spread f) where
@@ -66,7 +68,7 @@ module _ (f : Ops) where
     step_kept (takes only {r = Err e} asked r) h = stays r.1 h
     step_kept (returns {p = p} {r = Ok a} r) h = slip_moved p.request.station (standing_after a) r.1.keeps r.1.standings r.0.0.1 h
     step_kept (returns {r = Err e} r) h = stays r.1 h
-    step_kept (weigh_closes {v = v} {t = t} x) h = closes None v (length t) x.book x.accepted h
+    step_kept (weigh_closes {v = v} {t = t} x) h = closes ByWeighing v (length t) x.book x.accepted h
     step_kept (weigh_asks {b = b} {b' = b'} {k = k} {t = t} x) h =
         let asked : (¬ PlainTerms b.terms) × Within 2 b.terms.stations k = asks_one f laws spread b.terms h.pages.1 t k x.ends in
         record {
@@ -80,7 +82,7 @@ module _ (f : Ops) where
               ∙ all_done b (length t) x.accepted s (subst (λ (t : Terms). Within 2 t.stations s) x.again.terms within);
         }
     step_kept (weigh_refused e x) h = stays x.1 h
-    step_kept (settle_closes {k = k} {v = v} {t = t} x) h = closes (Some k) v (length t) x.book x.accepted h
+    step_kept (settle_closes {k = k} {v = v} {t = t} x) h = closes (BySettling k) v (length t) x.book x.accepted h
     step_kept (settle_refused e x) h = stays x.1 h
     step_kept (lists x) h = h
 

@@ -26,7 +26,7 @@ all_first t = first_sums t.stations t.bound * (t.stations - 1)
 abbrev pub TakenBy : Book → Stage → Type 0
 TakenBy b first = b.counts.taken ≡ per_reply b.question * replies_in b.terms.stations b.standings
 TakenBy b (second k) = b.counts.taken ≡ all_first b.terms + per_reply b.question * reply_in (standing b k)
-TakenBy b (closed again v) = b.counts.taken ≤ most_of b.terms
+TakenBy b (closed way v) = b.counts.taken ≤ most_of b.terms
 
 -- what the questions are for, as a number
 pub sums_due : (t : Terms) (q : Question) → FirstAsks t q → ¬ PlainTerms t → per_reply q ≡ first_sums t.stations t.bound
@@ -57,4 +57,4 @@ taken_few f b (second k) shape taken =
       mul-le-mul_left (per_reply b.question) (reply_in_most (standing b k)),
       most_sums t.stations t.pages t.bound t.stations_in.0 t.bound_in.0 shape.question.0,
     )
-taken_few f b (closed again v) shape taken = taken
+taken_few f b (closed way v) shape taken = taken

@@ -55,7 +55,7 @@ module _ (b b' : Book) (s : ℕ) (x : Standing) (keeps : Keeps b b') (is : b'.st
       taken ∙ h ∙ ap₂ ◌*◌ (sym due_then) as_many
   nothing_taken (second k) same taken h =
       taken ∙ h ∙ ap₂ ◌+◌ (ap all_first (sym keeps.terms)) (ap₂ ◌*◌ (sym due_then) (sym (reply_then k same)))
-  nothing_taken (closed again v) same taken h = omega (arith, ap most_of keeps.terms)
+  nothing_taken (closed way v) same taken h = omega (arith, ap most_of keeps.terms)
 
   -- a reply is taken; in the second asking only the station that is asked again has none in
   reply_taken : (f : Ops) (g : Stage) (only : Option ℕ) → AsksOnly g only → standing b s ≡ Out → x ≡ Heard
@@ -73,7 +73,7 @@ module _ (b b' : Book) (s : ℕ) (x : Standing) (keeps : Keeps b b') (is : b'.st
         omega (arith, ap (λ m. d * m) before, ap₂ ◌*◌ due_then after, ap all_first keeps.terms)
     | no d ↦ absurd (let done = shape.others s within (λ e. d (sym e)) in cc)
   ]
-  reply_taken f (closed again v) only asked out heard taken shape h = absurd asked
+  reply_taken f (closed way v) only asked out heard taken shape h = absurd asked
 
 taken_back : (r : Returned) (c : Counts) → (one_back r c).taken ≡ c.taken
 taken_back Answered c = refl

@@ -12,6 +12,7 @@ use Rattle.tally.specs.Rows.{signature_in}
 use Rattle.calls.specs.declared.terms.Terms.{Terms}
 use Rattle.calls.specs.declared.phases.Verdict.{Verdict}
 use Rattle.calls.specs.declared.phases.Verdict.TheVariants.{Report, Split, Over}
+use Rattle.calls.specs.declared.phases.Way.{Way}
 use Rattle.calls.specs.Questions.{PlainTerms}
 use Rattle.calls.specs.Runs.{Stage, first, second, closed}
 use Rattle.calls.specs.Replies.{JudgedBy}
@@ -30,10 +31,10 @@ module _ (f : Ops) (l : Laws f) (spread : Spread f) (t : Terms) (pages : Within 
       told : Told f t.stations t.pages t.bound P T T (P 1)
       told = record { own_row = λ n p. refl; first = λ s j a p. true s j; own_sums = λ j p. true 1 j; second = λ k j w p. true k j }
 
-  closed_right : (tally : List ℕ) (again : Option ℕ) (v : Verdict) → Ended f t T P tally v → Right P t tally (closed again v)
-  closed_right tally again Over x = finds.never_over x
-  closed_right tally again (Split n) x = finds.split_true n x
-  closed_right tally again Report (R, x, same) = record {
+  closed_right : (tally : List ℕ) (way : Way) (v : Verdict) → Ended f t T P tally v → Right P t tally (closed way v)
+  closed_right tally way Over x = finds.never_over x
+  closed_right tally way (Split n) x = finds.split_true n x
+  closed_right tally way Report (R, x, same) = record {
     decided = (finds.report_true R x).0;
     rows = rows;
     lists = λ s count before after h.
@@ -50,4 +51,4 @@ module _ (f : Ops) (l : Laws f) (spread : Spread f) (t : Terms) (pages : Within 
   pub true_reports : (tally : List ℕ) (g : Stage) → JudgedBy f t T P tally g → Right P t tally g
   true_reports tally first x = tt
   true_reports tally (second k) x = tt
-  true_reports tally (closed again v) x = closed_right tally again v (rules_come f t T P tally again v x)
+  true_reports tally (closed way v) x = closed_right tally way v (rules_come f t T P tally way v x)

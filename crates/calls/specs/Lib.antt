@@ -8,6 +8,7 @@ pub mod Endings
 pub mod RisingLists
 pub mod Listing
 pub mod Runs
+pub mod Steps
 pub mod Steady
 pub mod Replies
 pub mod Promise

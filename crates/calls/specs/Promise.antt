@@ -12,6 +12,7 @@ use Rattle.calls.specs.declared.book.Book.{Book}
 use Rattle.calls.specs.declared.terms.Terms.{Terms}
 use Rattle.calls.specs.declared.slip.Returned.TheVariants.{Answered, Blank}
 use Rattle.calls.specs.declared.phases.Verdict.TheVariants.{Report, Split, Over}
+use Rattle.calls.specs.declared.phases.Way.{Way}
 use Rattle.calls.specs.Questions.{PlainTerms}
 use Rattle.calls.specs.Closing.{WeighsBy}
 use Rattle.calls.specs.Listing.{Listing}
@@ -94,9 +95,9 @@ pub record ReportRight (P : Table) (t : Terms) (tally : List ℕ) : Type 0 where
 abbrev pub Right : (P : Table) → Terms → (tally : List ℕ) → Stage → Type 0
 Right P t tally first = Unit {0}
 Right P t tally (second k) = Unit {0}
-Right P t tally (closed again Over) = ⊥
-Right P t tally (closed again (Split n)) = Page t.pages n × (¬ Decided t.stations P n)
-Right P t tally (closed again Report) = ReportRight P t tally
+Right P t tally (closed way Over) = ⊥
+Right P t tally (closed way (Split n)) = Page t.pages n × (¬ Decided t.stations P n)
+Right P t tally (closed way Report) = ReportRight P t tally
 
 -- the table P yields all that was told: its row 1 is the own copy, and its sums and signatures are those of the accepted replies
 pub record YieldsAll (f : Ops) (own : List ℕ) (t : Terms) (ks : List Call) (P : Table) : Type 0 where
@@ -115,8 +116,8 @@ RepliesRight =
 -- Where a check closed with a report, the rows in the tally are such a table, if the own copy is of codes.
 abbrev pub ReportYields : Type 0
 ReportYields =
-    (f : Ops) → Laws f → Spread f → (own : List ℕ) (ks : List Call) (b : Book) (again : Option ℕ) (last : List ℕ) →
-    ClosedRun f own ks b again Report last → Codes f b.terms.pages (entry own) → YieldsAll f own b.terms ks (signature_in last b.terms.pages)
+    (f : Ops) → Laws f → Spread f → (own : List ℕ) (ks : List Call) (b : Book) (way : Way) (last : List ℕ) →
+    ClosedRun f own ks b way Report last → Codes f b.terms.pages (entry own) → YieldsAll f own b.terms ks (signature_in last b.terms.pages)
 
 -- What accepted replies alone make of a run.
 abbrev pub ByReplies : Type 0

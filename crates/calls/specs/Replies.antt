@@ -15,6 +15,8 @@ use Rattle.tally.specs.Rows.{sum_in, signature_in}
 use Rattle.calls.specs.declared.terms.Terms.{Terms}
 use Rattle.calls.specs.declared.book.Book.{Book}
 use Rattle.calls.specs.declared.phases.Verdict.{Verdict}
+use Rattle.calls.specs.declared.phases.Way.{Way}
+use Rattle.calls.specs.declared.phases.Way.TheVariants.{ByWeighing, BySettling}
 use Rattle.calls.specs.Questions.{PlainTerms}
 use Rattle.calls.specs.Closing.{WeighsBy, ClosesBy}
 use Rattle.calls.specs.Runs.{Stage, first, second, closed, Call, take, Run}
@@ -57,8 +59,8 @@ SecondReplied ks t k = RepliedTo ks Sums k (first_sums t.stations t.bound + 1) (
 abbrev pub AllReplied : List Call → Terms → Stage → Type 0
 AllReplied ks t first = Unit {0}
 AllReplied ks t (second k) = FirstReplied ks t
-AllReplied ks t (closed None v) = FirstReplied ks t
-AllReplied ks t (closed (Some k) v) = FirstReplied ks t × SecondReplied ks t k
+AllReplied ks t (closed ByWeighing v) = FirstReplied ks t
+AllReplied ks t (closed (BySettling k) v) = FirstReplied ks t × SecondReplied ks t k
 
 -- what is asked of stations 2 .. M up to a stage: of every one in the first asking, of station k in the second
 abbrev pub FirstAsked : Terms → Asked → (i : ℕ) → Type 0
@@ -71,8 +73,8 @@ SecondAsked t k asked s i = (k ≡ s) × (asked ≡ Sums) × Within (first_sums 
 abbrev pub AskedFor : Terms → Stage → Asked → (s i : ℕ) → Type 0
 AskedFor t first asked s i = FirstAsked t asked i
 AskedFor t (second k) asked s i = FirstAsked t asked i ⊎ SecondAsked t k asked s i
-AskedFor t (closed None v) asked s i = FirstAsked t asked i
-AskedFor t (closed (Some k) v) asked s i = FirstAsked t asked i ⊎ SecondAsked t k asked s i
+AskedFor t (closed ByWeighing v) asked s i = FirstAsked t asked i
+AskedFor t (closed (BySettling k) v) asked s i = FirstAsked t asked i ⊎ SecondAsked t k asked s i
 
 -- every accepted reply is a station's, of codes, to what it is asked for
 abbrev pub OnlyReplied : Ops → List Call → Terms → Stage → Type 0
@@ -98,8 +100,8 @@ module _ (f : Ops) (t : Terms) (T P : Table) where
   abbrev pub JudgedBy : (tally : List ℕ) → Stage → Type 0
   JudgedBy tally first = Unit {0}
   JudgedBy tally (second k) = AsksBy k
-  JudgedBy tally (closed None v) = ClosedAs t tally (WeighsBy f t T P) v
-  JudgedBy tally (closed (Some k) v) = AsksBy k × ClosedAs t tally SettlesBy v
+  JudgedBy tally (closed ByWeighing v) = ClosedAs t tally (WeighsBy f t T P) v
+  JudgedBy tally (closed (BySettling k) v) = AsksBy k × ClosedAs t tally SettlesBy v
 
 -- At every moment of every run: an asking is over only when all that it asks for was replied to, and nothing else ever was. If the calls share one tally, its
 -- rows are as told; and weighing and settling did what the rules say of any tables that are as told, so of the accepted replies alone. Of the stations
@@ -123,16 +125,16 @@ abbrev pub AmongReplies : (ks' ks : List Call) → Type 0
 AmongReplies ks' ks = (asked : Asked) (s i v : ℕ) → Replied ks' asked s i v → Replied ks asked s i v
 
 -- these calls closed the check, and one tally served them all
-pub record ClosedRun (f : Ops) (own : List ℕ) (ks : List Call) (b : Book) (again : Option ℕ) (v : Verdict) (last : List ℕ) : Type 0 where
+pub record ClosedRun (f : Ops) (own : List ℕ) (ks : List Call) (b : Book) (way : Way) (v : Verdict) (last : List ℕ) : Type 0 where
   pub opened : List ℕ
-  pub run : Run f own opened ks b (closed again v)
+  pub run : Run f own opened ks b (closed way v)
   pub one : OneTally opened ks last
 
 -- Two checks on the same terms but for the number, over the same own copy, closed where the accepted replies of one are replies of the other: they asked
 -- the same station again, or both none, closed with the same verdict, and left the same signatures in their rows.
 abbrev pub RepliesDecide : Type 0
 RepliesDecide =
-    (f : Ops) → Laws f → Spread f → (own : List ℕ) (ks ks' : List Call) (b b' : Book) (again again' : Option ℕ) (v v' : Verdict) (last last' : List ℕ) →
-    ClosedRun f own ks b again v last → ClosedRun f own ks' b' again' v' last' → SameFarm b.terms b'.terms → AmongReplies ks' ks →
-    (again' ≡ again) × (v' ≡ v)
+    (f : Ops) → Laws f → Spread f → (own : List ℕ) (ks ks' : List Call) (b b' : Book) (way way' : Way) (v v' : Verdict) (last last' : List ℕ) →
+    ClosedRun f own ks b way v last → ClosedRun f own ks' b' way' v' last' → SameFarm b.terms b'.terms → AmongReplies ks' ks →
+    (way' ≡ way) × (v' ≡ v)
     × Same b.terms.stations b.terms.pages (signature_in last' b'.terms.pages) (signature_in last b.terms.pages)

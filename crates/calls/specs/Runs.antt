@@ -6,6 +6,8 @@ use Rattle.calls.specs.declared.book.Book.{Book}
 use Rattle.calls.specs.declared.slip.Slip.{Slip}
 use Rattle.calls.specs.declared.slip.Returned.{Returned}
 use Rattle.calls.specs.declared.phases.Verdict.{Verdict}
+use Rattle.calls.specs.declared.phases.Way.{Way}
+use Rattle.calls.specs.declared.phases.Way.TheVariants.{ByWeighing, BySettling}
 use Rattle.calls.specs.Opening.{Opens}
 use Rattle.calls.specs.Slips.{Slips, Takes, Returns}
 use Rattle.calls.specs.Closing.{WeighCloses, WeighAsks, SettleCloses, NotClosed}
@@ -15,19 +17,19 @@ use Rattle.calls.specs.Listing.{Listing}
 pub data Stage : Type 0 where
   first : Stage
   second : (k : ℕ) → Stage
-  closed : (again : Option ℕ) → Verdict → Stage
+  closed : (way : Way) → Verdict → Stage
 
 -- an asking, and the one station that is asked if not all are; a closed check asks nobody
 abbrev pub AsksOnly : Stage → Option ℕ → Type 0
 AsksOnly first only = only ≡ None
 AsksOnly (second k) only = only ≡ Some k
-AsksOnly (closed again v) only = ⊥
+AsksOnly (closed way v) only = ⊥
 
 -- the verdict, once the check is closed
 abbrev pub found : Stage → Option Verdict
 found first = None
 found (second k) = None
-found (closed again v) = Some v
+found (closed way v) = Some v
 
 -- A call with its inputs and its answer; of a tally and a buffer, what it held before the call and after it.
 pub data Call : Type 0 where
@@ -46,10 +48,10 @@ pub data Step (f : Ops) : Book → Stage → Call → Book → Stage → Type 0 
       → AsksOnly g only → Takes f b p.request w t r b' t' → Step f b g (take p w t r t') b' g
   returns : {b b' : Book} {g : Stage} {p : Slip} {r : Result Returned Refusal}
       → Returns b p.request r b' → Step f b g (return p r) b' g
-  weigh_closes : {b b' : Book} {v : Verdict} {t t' : List ℕ} → WeighCloses f b t v b' t' → Step f b first (weigh t t') b' (closed None v)
+  weigh_closes : {b b' : Book} {v : Verdict} {t t' : List ℕ} → WeighCloses f b t v b' t' → Step f b first (weigh t t') b' (closed ByWeighing v)
   weigh_asks : {b b' : Book} {k : ℕ} {t t' : List ℕ} → WeighAsks f b t k b' t' → Step f b first (weigh t t') b' (second k)
   weigh_refused : {b b' : Book} {t t' : List ℕ} (e : Refusal) → NotClosed b t e b' t' → Step f b first (weigh t t') b' first
-  settle_closes : {b b' : Book} {k : ℕ} {v : Verdict} {t t' : List ℕ} → SettleCloses f b t v b' t' → Step f b (second k) (settle t t') b' (closed (Some k) v)
+  settle_closes : {b b' : Book} {k : ℕ} {v : Verdict} {t t' : List ℕ} → SettleCloses f b t v b' t' → Step f b (second k) (settle t t') b' (closed (BySettling k) v)
   settle_refused : {b b' : Book} {k : ℕ} {t t' : List ℕ} (e : Refusal) → NotClosed b t e b' t' → Step f b (second k) (settle t t') b' (second k)
   lists : {b : Book} {g : Stage} {s : ℕ} {t o o' : List ℕ} {r : Result ℕ Refusal}
       → Listing b.terms (found g) s t o r o' → Step f b g (list s t o r o') b g

@@ -1,15 +1,16 @@
 // The counts that every check tells.
 
+/// The counts of a check, from its opening on. Rules: docs/RULES.md, "What a check tells".
 #[derive(Clone, Copy, PartialEq, Eq, Debug)]
 pub struct Counts {
-    // slips handed out
+    /// Slips handed out.
     pub handed: u32,
-    // accepted returns that said "answered"
+    /// Accepted returns that said "answered".
     pub answered: u32,
-    // accepted returns that said "blank"
+    /// Accepted returns that said "blank".
     pub blank: u32,
-    // slips still out
+    /// Slips still out.
     pub out: u32,
-    // sums and signatures taken: the value words of accepted replies
+    /// Sums and signatures taken: the value words of accepted replies.
     pub taken: u64,
 }

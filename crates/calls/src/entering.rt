@@ -8,9 +8,9 @@ ghost use Rattle.calls.specs.Entering.{Placed, RowsOpened, Entered, place_of};
 
 use crate::terms::Terms;
 use field::Field;
-use wire::{Asked, Request};
 use station::Station;
 use tally::{SUM_COUNT, put_signature, put_sum};
+use wire::{Asked, Request};
 
 const VALUE_LIMIT: u32 = 1 << 28;
 

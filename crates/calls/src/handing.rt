@@ -5,27 +5,13 @@ ghost use Rattle.wire.specs.Requests.{request_words};
 ghost use Rattle.calls.specs.Slips.{slipping, Asks, Slips};
 
 use crate::book::Book;
-use crate::check::Check;
 use crate::slip::Slip;
-use crate::stages::Asking;
 use crate::standing::Standing;
-use field::Field;
-use wire::Request;
 use refusal::{Buffer, Refusal};
-
-impl<F: Field, P: Asking> Check<F, P> {
-    // Hands out a slip for a station 2 to M, and writes the words of its request.
-    // Refused: a short buffer, no such station, not the one that is asked again, its slip is out, its reply is in, too many slips; then nothing changes.
-    pub fn slip(&mut self, station: u32, request: &mut [u32]) -> Result<Slip, Refusal>
-        ensures book { Slips self.old.book (P.Asking.only self.old.phase) station request.old result self.new.book request.new }
-        ensures phase { self.new.phase ≡ self.old.phase }
-    {
-        self.book.hand_out(self.phase.only(), station, request)
-    }
-}
+use wire::Request;
 
 impl Book {
-    fn hand_out(
+    pub(crate) fn hand_out(
         &mut self,
         only: Option<u32>,
         station: u32,

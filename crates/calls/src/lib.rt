@@ -19,14 +19,13 @@ mod slip;
 mod stages;
 mod standing;
 mod taking;
-mod telling;
 mod terms;
 mod weighed;
 mod weighing;
 
 pub use check::Check;
 pub use counts::Counts;
-pub use phases::{Closed, First, Second, Verdict};
+pub use phases::{Closed, First, Second, Verdict, Way};
 pub use slip::{Returned, Slip};
-pub use stages::{Asking, Finding};
+pub use stages::{Asking, Phase};
 pub use weighed::{Declined, Weighed};

@@ -2,26 +2,12 @@
 ghost use Rattle.calls.specs.Listing;
 
 use crate::book::Book;
-use crate::check::Check;
 use crate::phases::Verdict;
-use crate::stages::Finding;
-use field::Field;
 use refusal::{Buffer, Refusal};
 use tally::list_bad;
 
-impl<F: Field, P: Finding> Check<F, P> {
-    // Writes the bad pages of one station, rising, and tells how many there are.
-    // Refused: a short tally, no report, no such station, a buffer too short for these pages; then nothing changes.
-    pub fn list(&self, station: u32, tally: &[u32], out: &mut [u32]) -> Result<usize, Refusal>
-        ensures { Listing.Listing self.now.book.terms (P.Finding.found self.now.phase) station tally.now out.old result out.new }
-    {
-        self.book
-            .list_pages(self.phase.found(), station, tally, out)
-    }
-}
-
 impl Book {
-    fn list_pages(
+    pub(crate) fn list_pages(
         &self,
         found: Option<Verdict>,
         station: u32,

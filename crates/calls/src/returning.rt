@@ -3,27 +3,13 @@ ghost use Rattle.std.specs.Prelude.{◌≡◌};
 ghost use Rattle.calls.specs.Slips.{Returns};
 
 use crate::book::Book;
-use crate::check::Check;
-use crate::slip::{Returned, Slip};
+use crate::slip::Returned;
 use crate::standing::Standing;
-use field::Field;
-use wire::Request;
 use refusal::Refusal;
-
-impl<F: Field, P> Check<F, P> {
-    // Ends a slip, in every phase: "answered" if a reply to its request was taken here, else "blank".
-    // Refused: no slip with its request is out here; then the check stays as it was, and the slip has ended all the same.
-    pub fn return_slip(&mut self, slip: Slip) -> Result<Returned, Refusal>
-        ensures book { Returns self.old.book slip.request result self.new.book }
-        ensures phase { self.new.phase ≡ self.old.phase }
-    {
-        let Slip { request } = slip;
-        self.book.end(&request)
-    }
-}
+use wire::Request;
 
 impl Book {
-    fn end(&mut self, request: &Request) -> Result<Returned, Refusal>
+    pub(crate) fn end(&mut self, request: &Request) -> Result<Returned, Refusal>
         ensures { Returns self.old request.now result self.new }
     {
         if !self.is_out_here(request) {

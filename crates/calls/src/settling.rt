@@ -4,40 +4,17 @@ ghost use Rattle.field.specs.Field.{page_limit};
 ghost use Rattle.refusal.specs.Rules.{Within};
 ghost use Rattle.tally.specs.Rows.{tally_size};
 ghost use Rattle.verdict.specs.Judging;
-ghost use Rattle.calls.specs.Closing.{Settling, SettleEnds, Finds};
+ghost use Rattle.calls.specs.Closing.{SettleEnds, Finds};
 
-use crate::check::Check;
 use crate::ending::Ending;
-use crate::phases::{Closed, Second, Verdict};
+use crate::phases::Verdict;
 use crate::terms::Terms;
-use crate::weighed::Declined;
 use field::Field;
 use tally::Outcome;
 
-impl<F: Field> Check<F, Second> {
-    // Ends the second asking and closes the check, by what stands in the tally that it is handed. Refused as weighing is.
-    pub fn settle(self, tally: &mut [u32]) -> Result<Check<F, Closed>, Declined<Check<F, Second>>>
-        ensures { Settling F.Field.ops self tally.old result tally.new }
-    {
-        if let Err(refusal) = self.book.can_close(tally.len()) {
-            return Err(Declined {
-                check: self,
-                refusal,
-            });
-        }
-        let verdict = self.book.terms.settle_rows::<F>(tally);
-        let Check { book, field, .. } = self;
-        Ok(Check {
-            book,
-            phase: Closed { verdict },
-            field,
-        })
-    }
-}
-
 impl Terms {
     // What all sums come to.
-    fn settle_rows<F: Field>(&self, tally: &mut [u32]) -> Verdict
+    pub(crate) fn settle_rows<F: Field>(&self, tally: &mut [u32]) -> Verdict
         requires pages { Within 1 (page_limit F.Field.ops) self.now.pages }
         requires room { tally_size self.now.stations self.now.pages ≤ length tally.old }
         ensures { Finds (SettleEnds F.Field.ops self.now tally.old) self.now.stations self.now.pages tally.old tally.new result }

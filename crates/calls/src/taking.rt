@@ -6,28 +6,14 @@ ghost use Rattle.calls.specs.Slips;
 ghost use Rattle.calls.specs.Slips.{OutHere, taking, Takes};
 
 use crate::book::Book;
-use crate::check::Check;
 use crate::entering::enter_values;
-use crate::slip::Slip;
-use crate::stages::Asking;
 use crate::standing::Standing;
 use field::Field;
-use wire::{Request, read_reply};
 use refusal::{Buffer, Refusal};
-
-impl<F: Field, P: Asking> Check<F, P> {
-    // Puts the values of a reply under its slip into the station's row.
-    // Refused: a short tally, a slip that is not out here, a reply that is in, a garbled or foreign reply; then nothing changes.
-    pub fn take(&mut self, slip: &Slip, reply: &[u32], tally: &mut [u32]) -> Result<(), Refusal>
-        ensures book { Takes F.Field.ops self.old.book slip.now.request reply.now tally.old result self.new.book tally.new }
-        ensures phase { self.new.phase ≡ self.old.phase }
-    {
-        self.book.take_in::<F>(&slip.request, reply, tally)
-    }
-}
+use wire::{Request, read_reply};
 
 impl Book {
-    fn take_in<F: Field>(
+    pub(crate) fn take_in<F: Field>(
         &mut self,
         request: &Request,
         reply: &[u32],

@@ -6,51 +6,19 @@ ghost use Rattle.tally.specs.Rows.{tally_size};
 ghost use Rattle.verdict.specs.Judging;
 ghost use Rattle.calls.specs.declared.standing.Standing.TheVariants.{Done};
 ghost use Rattle.calls.specs.Slips;
-ghost use Rattle.calls.specs.Closing.{Weighing, Again};
+ghost use Rattle.calls.specs.Closing.{Again};
 ghost use Rattle.calls.specs.Endings.{WeighedAs};
 
 use crate::book::Book;
-use crate::check::Check;
 use crate::ending::Ending;
-use crate::phases::{Closed, First, Second};
 use crate::standing::Standing;
 use crate::terms::Terms;
-use crate::weighed::{Declined, Weighed};
 use field::Field;
 use tally::Outcome;
 
-impl<F: Field> Check<F, First> {
-    // Ends the first asking: closes the check, or names the station that is asked again.
-    // Refused: a short tally, the lowest station whose slip is out, the lowest whose reply is lacking; then nothing changes, and the check comes back.
-    pub fn weigh(self, tally: &mut [u32]) -> Result<Weighed<F>, Declined<Check<F, First>>>
-        ensures { Weighing F.Field.ops self tally.old result tally.new }
-    {
-        if let Err(refusal) = self.book.can_close(tally.len()) {
-            return Err(Declined {
-                check: self,
-                refusal,
-            });
-        }
-        let ending = self.book.terms.weigh_rows::<F>(tally);
-        let Check { book, field, .. } = self;
-        Ok(match ending {
-            Ending::Closes(verdict) => Weighed::Closes(Check {
-                book,
-                phase: Closed { verdict },
-                field,
-            }),
-            Ending::Asks(station) => Weighed::Asks(Check {
-                book: book.ask_again(station),
-                phase: Second { station },
-                field,
-            }),
-        })
-    }
-}
-
 impl Book {
     // The book of the second asking: the station's slip and reply count afresh.
-    fn ask_again(self, station: u32) -> Book
+    pub(crate) fn ask_again(self, station: u32) -> Book
         requires station { station ≤ 8 }
         requires done { Slips.standing self station ≡ Done }
         ensures { Again self station result }
@@ -68,7 +36,7 @@ impl Book {
 
 impl Terms {
     // What the rows in a plain check, and the sums in any other, end in.
-    fn weigh_rows<F: Field>(&self, tally: &mut [u32]) -> Ending
+    pub(crate) fn weigh_rows<F: Field>(&self, tally: &mut [u32]) -> Ending
         requires pages { Within 1 (page_limit F.Field.ops) self.now.pages }
         requires room { tally_size self.now.stations self.now.pages ≤ length tally.old }
         ensures { WeighedAs F.Field.ops self.now tally.old tally.new result }
