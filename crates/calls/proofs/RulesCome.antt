@@ -1,5 +1,5 @@
 -- However a check closed, it closed as the rules end that go from the first asking to the end.
-use Rattle.std.proofs.Common.{ℕ, List, Option, Some, None, inl, inr, subst, sym}
+use Rattle.std.proofs.Common.{ℕ, ◌⊎◌, List, Option, Some, None, inl, inr, subst, sym}
 use Rattle.field.specs.Field.{Ops}
 use Rattle.scheme.specs.Farm.{Table, Same}
 use Rattle.scheme.specs.Askings.{Outcome, over, split, filled, asks}
@@ -12,7 +12,7 @@ use Rattle.calls.specs.declared.phases.Way.{Way}
 use Rattle.calls.specs.declared.phases.Way.TheVariants.{ByWeighing, BySettling}
 use Rattle.calls.specs.Runs.{closed}
 use Rattle.calls.specs.Closing.{WeighsBy}
-use Rattle.calls.specs.Replies.{AsksBy, SettlesBy, ClosedAs, JudgedBy}
+use Rattle.calls.specs.Replies.{Unfilled, AsksBy, SettlesBy, ClosedAs, JudgedBy}
 
 module _ (f : Ops) (t : Terms) (T P : Table) where
   -- an outcome to which the rules come
@@ -48,6 +48,17 @@ module _ (f : Ops) (t : Terms) (T P : Table) where
   ended Ends come tally (Split n) (inl x) = inl (come (split n) x.0)
   ended Ends come tally (Split n) (inr x) = inr (x.0, come (filled x.0) x.1, x.3)
   ended Ends come tally Report x = (x.0, (come (filled x.0) x.1, x.3), x.2)
+
+  -- where a page is split the tally has the rows that the rules fill, or none are filled
+  split_by : (Ends : Outcome → Type 0) → ((o : Outcome) → Ends o → Truly o) → (tally : List ℕ) (n : ℕ) → ClosedAs t tally Ends (Split n)
+      → ((R : Table) × Fills f t.stations t.pages t.bound T T (P 1) P R × Same t.stations t.pages (signature_in tally t.pages) R) ⊎ Unfilled t tally
+  split_by Ends come tally n (inl x) = inr x.1
+  split_by Ends come tally n (inr x) = inl (x.0, come (filled x.0) x.1, x.2)
+
+  pub split_rows : (tally : List ℕ) (way : Way) (n : ℕ) → JudgedBy f t T P tally (closed way (Split n))
+      → ((R : Table) × Fills f t.stations t.pages t.bound T T (P 1) P R × Same t.stations t.pages (signature_in tally t.pages) R) ⊎ Unfilled t tally
+  split_rows tally ByWeighing n x = split_by (WeighsBy f t T P) weighs_come tally n x
+  split_rows tally (BySettling k) n x = split_by (SettlesBy f t T P) (settles_come k x.0) tally n x.1
 
   pub rules_come : (tally : List ℕ) (way : Way) (v : Verdict) → JudgedBy f t T P tally (closed way v) → Ended tally v
   rules_come tally ByWeighing v x = ended (WeighsBy f t T P) weighs_come tally v x

@@ -5,6 +5,7 @@ use Rattle.refusal.specs.Rules.{Within}
 use Rattle.field.specs.Sums.{power_sum}
 use Rattle.algebra.specs.Vectors.{Codes}
 use Rattle.scheme.specs.Farm.{Table, Station, Same, Bad, strays}
+use Rattle.scheme.specs.Ending.{Fills}
 use Rattle.scheme.specs.Theorem.{Told, Finds}
 use Rattle.scheme.proofs.Tables.{bad_same}
 use Rattle.scheme.proofs.Truth.{right}
@@ -16,8 +17,8 @@ use Rattle.calls.specs.declared.phases.Way.{Way}
 use Rattle.calls.specs.Questions.{PlainTerms}
 use Rattle.calls.specs.Runs.{Stage, first, second, closed}
 use Rattle.calls.specs.Replies.{JudgedBy}
-use Rattle.calls.specs.Promise.{Differs, Right}
-use Rattle.calls.proofs.RulesCome.{Ended, rules_come}
+use Rattle.calls.specs.Promise.{Differs, ReportRight, SplitRight, Right}
+use Rattle.calls.proofs.RulesCome.{Ended, split_rows, rules_come}
 use Rattle.calls.proofs.BadPages.{bad_differs, differs_bad, listed_as}
 
 module _ (f : Ops) (l : Laws f) (spread : Spread f) (t : Terms) (pages : Within 1 (page_limit f) t.pages) (T P : Table)
@@ -31,10 +32,13 @@ module _ (f : Ops) (l : Laws f) (spread : Spread f) (t : Terms) (pages : Within 
       told : Told f t.stations t.pages t.bound P T T (P 1)
       told = record { own_row = λ n p. refl; first = λ s j a p. true s j; own_sums = λ j p. true 1 j; second = λ k j w p. true k j }
 
-  closed_right : (tally : List ℕ) (way : Way) (v : Verdict) → Ended f t T P tally v → Right P t tally (closed way v)
-  closed_right tally way Over x = finds.never_over x
-  closed_right tally way (Split n) x = finds.split_true n x
-  closed_right tally way Report (R, x, same) = record {
+  -- rows that the rules fill are those of P
+  rows_of : (tally : List ℕ) (R : Table) → Fills f t.stations t.pages t.bound T T (P 1) P R → Same t.stations t.pages (signature_in tally t.pages) R
+      → Same t.stations t.pages (signature_in tally t.pages) P
+  rows_of tally R x same s n a p = same s n a p ∙ finds.rows_true R x s n a p
+
+  report_right : (tally : List ℕ) → Ended f t T P tally Report → ReportRight P t tally
+  report_right tally (R, x, same) = record {
     decided = (finds.report_true R x).0;
     rows = rows;
     lists = λ s count before after h.
@@ -46,9 +50,23 @@ module _ (f : Ops) (l : Laws f) (spread : Spread f) (t : Terms) (pages : Within 
   }
     where
       rows : Same t.stations t.pages (signature_in tally t.pages) P
-      rows s n a p = same s n a p ∙ finds.rows_true R x.0 s n a p
+      rows = rows_of tally R x.0 same
+
+  split_right : (tally : List ℕ) (way : Way) (n : ℕ) → JudgedBy f t T P tally (closed way (Split n)) → SplitRight P t tally n
+  split_right tally way n x =
+      let found = finds.split_true n (rules_come f t T P tally way (Split n) x) in
+      record {
+        page = found.0;
+        undecided = found.1;
+        rows = elim (split_rows f t T P tally way n x) [ inl r ↦ inl (rows_of tally r.0 r.1 r.2) | inr none ↦ inr none ];
+      }
+
+  closed_right : (tally : List ℕ) (way : Way) (v : Verdict) → JudgedBy f t T P tally (closed way v) → Right P t tally (closed way v)
+  closed_right tally way Over x = finds.never_over (rules_come f t T P tally way Over x)
+  closed_right tally way (Split n) x = split_right tally way n x
+  closed_right tally way Report x = report_right tally (rules_come f t T P tally way Report x)
 
   pub true_reports : (tally : List ℕ) (g : Stage) → JudgedBy f t T P tally g → Right P t tally g
   true_reports tally first x = tt
   true_reports tally (second k) x = tt
-  true_reports tally (closed way v) x = closed_right tally way v (rules_come f t T P tally way v x)
+  true_reports tally (closed way v) x = closed_right tally way v x

@@ -15,7 +15,6 @@ use Rattle.calls.specs.declared.terms.Terms.{Terms}
 use Rattle.calls.specs.declared.book.Book.{Book}
 use Rattle.calls.specs.declared.phases.Verdict.{Verdict}
 use Rattle.calls.specs.declared.phases.Verdict.TheVariants.{Report, Split, Over}
-use Rattle.calls.specs.declared.phases.Way.TheVariants.{ByWeighing, BySettling}
 use Rattle.calls.specs.declared.phases.First.{First}
 use Rattle.calls.specs.declared.phases.Second.{Second}
 use Rattle.calls.specs.declared.phases.Closed.{Closed}
@@ -97,11 +96,11 @@ NotClosed b before refusal b' after = Refused (closing b (length before)) refusa
 
 abbrev pub Weighing : {F : Type 0} {g : Ghosts F} → Ops → Check F First g → (before : List ℕ)
     → Result (Weighed F g) (Declined (Check F First g)) → (after : List ℕ) → Type 0
-Weighing f c before (Ok (weighed.Closes d)) after = WeighCloses f c.book before d.phase.verdict d.book after × (d.phase.way ≡ ByWeighing)
+Weighing f c before (Ok (weighed.Closes d)) after = WeighCloses f c.book before d.phase.verdict d.book after
 Weighing f c before (Ok (weighed.Asks d)) after = WeighAsks f c.book before d.phase.station d.book after
 Weighing f c before (Err e) after = NotClosed c.book before e.refusal e.check.book after
 
 abbrev pub Settling : {F : Type 0} {g : Ghosts F} → Ops → Check F Second g → (before : List ℕ)
     → Result (Check F Closed g) (Declined (Check F Second g)) → (after : List ℕ) → Type 0
-Settling f c before (Ok d) after = SettleCloses f c.book before d.phase.verdict d.book after × (d.phase.way ≡ BySettling c.phase.station)
+Settling f c before (Ok d) after = SettleCloses f c.book before d.phase.verdict d.book after
 Settling f c before (Err e) after = NotClosed c.book before e.refusal e.check.book after × (e.check.phase ≡ c.phase)

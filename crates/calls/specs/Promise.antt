@@ -18,7 +18,7 @@ use Rattle.calls.specs.Closing.{WeighsBy}
 use Rattle.calls.specs.Listing.{Listing}
 use Rattle.calls.specs.Runs.{Stage, first, second, closed, Call, slip, take, return, Run}
 use Rattle.calls.specs.Steady.{FarmHolds, copies, sums, OneTally, Steady}
-use Rattle.calls.specs.Replies.{AsTold, AsksBy, SettlesBy, JudgedBy, ClosedRun, RepliesJudged, RepliesDecide}
+use Rattle.calls.specs.Replies.{AsTold, Unfilled, AsksBy, SettlesBy, JudgedBy, ClosedRun, RepliesJudged, RepliesDecide}
 
 -- ── counts
 
@@ -91,12 +91,18 @@ pub record ReportRight (P : Table) (t : Terms) (tally : List ℕ) : Type 0 where
   pub lists : (s count : ℕ) (before after : List ℕ) → Listing t (Some Report) s tally before (Ok count) after
       → Listed t.pages (Differs t.stations P s) before after count
 
--- what was found is right of P: a split page has no majority, and the check is never over
+-- a split is right of the table P: its page has no majority; the tally's rows are those of P, or none are filled
+pub record SplitRight (P : Table) (t : Terms) (tally : List ℕ) (n : ℕ) : Type 0 where
+  pub page : Page t.pages n
+  pub undecided : ¬ Decided t.stations P n
+  pub rows : Same t.stations t.pages (signature_in tally t.pages) P ⊎ Unfilled t tally
+
+-- what was found is right of P: a split and a report are, and the check is never over
 abbrev pub Right : (P : Table) → Terms → (tally : List ℕ) → Stage → Type 0
 Right P t tally first = Unit {0}
 Right P t tally (second k) = Unit {0}
 Right P t tally (closed way Over) = ⊥
-Right P t tally (closed way (Split n)) = Page t.pages n × (¬ Decided t.stations P n)
+Right P t tally (closed way (Split n)) = SplitRight P t tally n
 Right P t tally (closed way Report) = ReportRight P t tally
 
 -- the table P yields all that was told: its row 1 is the own copy, and its sums and signatures are those of the accepted replies
