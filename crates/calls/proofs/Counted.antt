@@ -8,6 +8,7 @@ use Rattle.calls.specs.Runs.{Stage, Call, Run, opened, called}
 use Rattle.calls.proofs.ShapesKept.{shape_kept}
 use Rattle.calls.proofs.TakenByStage.{taken_few}
 use Rattle.calls.proofs.TakenKept.{taken_kept}
+use Rattle.calls.proofs.RepliesCounted.{replies_counted}
 use Rattle.calls.proofs.CallsAdded.{Adds, calls_added}
 
 record Totals (ks : List Call) (n : Counts) : Type 0 where
@@ -34,5 +35,6 @@ counted f laws spread own tally ks b g run =
       blank = all.blank;
       taken = all.taken;
       out = b.balance;
+      replied = replies_counted f laws spread own tally ks b g run;
       few = taken_few f b g (shape_kept f laws spread own tally ks b g run) (taken_kept f laws spread own tally ks b g run);
     }

@@ -5,6 +5,7 @@ use Rattle.scheme.specs.Farm.{Table}
 use Rattle.calls.specs.Steady.{copies}
 use Rattle.calls.specs.Promise.{EveryRun, RepliesRight, ByReplies}
 use Rattle.calls.proofs.Counted.{counted}
+use Rattle.calls.proofs.SlipsKnown.{slips_known}
 use Rattle.calls.proofs.ShapesKept.{shape_kept}
 use Rattle.calls.proofs.HeardKept.{run_heard}
 use Rattle.calls.proofs.Yielded.{yielded_told}
@@ -25,11 +26,12 @@ by_replies = (replies_judged, replies_right, replies_decide, report_yields)
 
 -- over a steady farm what the stations hold is such a table
 pub every_run : EveryRun
-every_run f laws spread own tally ks b g run = (
-  counted f laws spread own tally ks b g run,
-  λ holds last farm steady.
+every_run f laws spread own tally ks b g run = record {
+  counted = counted f laws spread own tally ks b g run;
+  known = slips_known f laws spread own tally ks b g run;
+  steady = λ holds last farm steady.
       let heard = run_heard f laws spread own tally ks b g run in
       let told =
       yielded_told f laws holds b.terms farm own steady.0 ks (λ a s i v r. omega (arith, (heard.due a s i v r).0)) steady.2 in
-      replies_right f laws spread own tally ks b g run last steady.1 (copies holds) (record { codes = farm.codes; told = told }),
-)
+      replies_right f laws spread own tally ks b g run last steady.1 (copies holds) (record { codes = farm.codes; told = told });
+}

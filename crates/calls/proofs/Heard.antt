@@ -14,7 +14,8 @@ use Rattle.calls.specs.declared.phases.Way.TheVariants.{ByWeighing, BySettling}
 use Rattle.calls.specs.Standings.{standing_of}
 use Rattle.calls.specs.Runs.{Stage, first, second, closed, Call, take, AsksOnly}
 use Rattle.calls.specs.Replies.{Gives, Replied, RepliedTo, FirstReplied, AllReplied, FirstAsked, SecondAsked, AskedFor}
-use Rattle.calls.proofs.Shapes.{StageAsks, AskedAt}
+use Rattle.calls.specs.States.{AskedAt}
+use Rattle.calls.proofs.Shapes.{StageAsks}
 use Rattle.calls.proofs.RepliesIn.{reply_in}
 use Rattle.calls.proofs.StandingsSet.{standing_other, standing_same}
 use Rattle.calls.proofs.Indices.{Index}

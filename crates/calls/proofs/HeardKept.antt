@@ -19,7 +19,8 @@ use Rattle.calls.specs.Closing.{WeighAsks}
 use Rattle.calls.specs.Runs.{Stage, first, second, closed, AsksOnly, Call, Step, Run, slips, takes, returns, weigh_closes, weigh_asks, weigh_refused, settle_closes, settle_refused, lists, opened, called}
 use Rattle.calls.specs.Replies.{Gives, Replied, OnlyReplied, RepliedTo, FirstReplied, SecondReplied, AllReplied, AskedFor}
 use Rattle.calls.proofs.AsksOne.{asks_one}
-use Rattle.calls.proofs.Shapes.{StageAsks, AskedAt, Shape}
+use Rattle.calls.specs.States.{AskedAt}
+use Rattle.calls.proofs.Shapes.{StageAsks, Shape}
 use Rattle.calls.proofs.ShapesKept.{shape_kept, all_done, terms_stay}
 use Rattle.calls.proofs.StandingsSet.{place_inside, standing_same, standing_start, not_free, not_done, free_if}
 use Rattle.calls.proofs.RepliesIn.{reply_in, reply_stays}

@@ -14,6 +14,8 @@ pub mod IndicesAsked
 pub mod JudgedBy
 pub mod LowestStations
 pub mod MostTaken
+pub mod NewestCalls
+pub mod RepliesCounted
 pub mod RepliesDecide
 pub mod RepliesIn
 pub mod RepliesJudged
@@ -23,6 +25,7 @@ pub mod RulesCome
 pub mod Shapes
 pub mod ShapesKept
 pub mod StandingsSet
+pub mod SlipsKnown
 pub mod Stands
 pub mod TakenByStage
 pub mod TakenFits

@@ -9,6 +9,7 @@ use Rattle.calls.specs.declared.book.Book.{Book}
 use Rattle.calls.specs.Questions.{PlainTerms, FirstAsks, SecondAsks}
 use Rattle.calls.specs.Slips.{standing}
 use Rattle.calls.specs.Runs.{Stage, first, second, closed}
+use Rattle.calls.specs.States.{AskedAt}
 
 -- what the asking of a stage asks for
 abbrev pub StageAsks : Terms → Stage → Question → Type 0
@@ -16,11 +17,6 @@ StageAsks t first q = FirstAsks t q
 StageAsks t (second k) q = (¬ PlainTerms t) × Within 2 t.stations k × SecondAsks t q
 StageAsks t (closed way v) q = Unit {0}
 
--- station s is asked at this stage
-abbrev pub AskedAt : Stage → ℕ → Type 0
-AskedAt first s = Unit {0}
-AskedAt (second k) s = k ≡ s
-AskedAt (closed way v) s = ⊥
 
 -- every number but the stations 2 .. M stands free, and of these all that are not asked have told
 pub record Shape (f : Ops) (b : Book) (g : Stage) : Type 0 where

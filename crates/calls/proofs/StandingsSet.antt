@@ -5,7 +5,9 @@ use Rattle.refusal.specs.Rules.{Within}
 use Rattle.calls.specs.declared.book.Book.{Book}
 use Rattle.calls.specs.declared.standing.Standing.{Standing}
 use Rattle.calls.specs.declared.standing.Standing.TheVariants.{Free, Out, Heard, Done}
+use Rattle.calls.specs.declared.slip.Returned.TheVariants.{Answered}
 use Rattle.calls.specs.Standings.{standing_of, SlipOut}
+use Rattle.calls.specs.Slips.{returned_as}
 
 pub standing_other : (xs : List Standing) {ys : List Standing} (s : ℕ) (x : Standing) → ys ≡ set xs s x → (t : ℕ) → t ≢ s → standing_of ys t ≡ standing_of xs t
 standing_other xs s x is t d = ap (λ ys. standing_of ys t) is ∙ get_or-set_other xs s t x Free d
@@ -52,3 +54,10 @@ free_if Done h k = absurd (k refl)
 pub out_if : (x : Standing) → SlipOut x → (x ≡ Heard → ⊥) → x ≡ Out
 out_if x (inl e) h = e
 out_if x (inr e) h = absurd (h e)
+
+-- what comes back answered was heard
+pub heard_if : (x : Standing) → SlipOut x → returned_as x ≡ Answered → x ≡ Heard
+heard_if Free o e = cc
+heard_if Out o e = cc
+heard_if Heard o e = refl
+heard_if Done o e = cc

@@ -22,7 +22,8 @@ use Rattle.calls.specs.Entering.{place_of, Entered, RowsOpened}
 use Rattle.calls.specs.Opening.{Opens}
 use Rattle.calls.specs.Runs.{Stage, Call, take, AsksOnly}
 use Rattle.calls.specs.Replies.{Replied, AsTold, Unfilled}
-use Rattle.calls.proofs.Shapes.{StageAsks, AskedAt}
+use Rattle.calls.specs.States.{AskedAt}
+use Rattle.calls.proofs.Shapes.{StageAsks}
 use Rattle.calls.proofs.RepliesIn.{reply_in}
 use Rattle.calls.proofs.Indices.{Index, other_rows, other_index, index_inside}
 use Rattle.calls.proofs.IndicesAsked.{request_indices}

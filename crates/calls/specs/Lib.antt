@@ -9,6 +9,7 @@ pub mod RisingLists
 pub mod Listing
 pub mod Runs
 pub mod Steps
+pub mod States
 pub mod Steady
 pub mod Replies
 pub mod Promise

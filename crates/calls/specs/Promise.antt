@@ -13,10 +13,12 @@ use Rattle.calls.specs.declared.terms.Terms.{Terms}
 use Rattle.calls.specs.declared.slip.Returned.TheVariants.{Answered, Blank}
 use Rattle.calls.specs.declared.phases.Verdict.TheVariants.{Report, Split, Over}
 use Rattle.calls.specs.declared.phases.Way.{Way}
+use Rattle.calls.specs.Standings.{replies_out}
 use Rattle.calls.specs.Questions.{PlainTerms}
 use Rattle.calls.specs.Closing.{WeighsBy}
 use Rattle.calls.specs.Listing.{Listing}
 use Rattle.calls.specs.Runs.{Stage, first, second, closed, Call, slip, take, return, Run}
+use Rattle.calls.specs.States.{SlipsKnown}
 use Rattle.calls.specs.Steady.{FarmHolds, copies, sums, OneTally, Steady}
 use Rattle.calls.specs.Replies.{AsTold, Unfilled, AsksBy, SettlesBy, JudgedBy, ClosedRun, RepliesJudged, RepliesDecide}
 
@@ -42,6 +44,11 @@ abbrev pub taken_by : Call → ℕ
 taken_by (take p w t (Ok u) t') = length w - 4
 taken_by _ = 0
 
+-- to the replies that were accepted
+abbrev pub replied_by : Call → ℕ
+replied_by (take p w t (Ok u) t') = 1
+replied_by _ = 0
+
 -- over all calls
 abbrev pub all_calls : (Call → ℕ) → List Call → ℕ
 all_calls adds [] = 0
@@ -51,13 +58,14 @@ all_calls adds (c ∷ ks) = adds c + all_calls adds ks
 abbrev pub most_taken : (M N bound : ℕ) → ℕ
 most_taken M N bound = cond (M == 3) (min N (first_sums 3 bound) + min N (2 * bound)) ((M - 2) * min N bound + min N (2 * bound))
 
--- the check's counts are those of the calls
+-- the check's counts are those of the calls; each accepted reply was returned, as "answered", or its slip is still out
 pub record Counted (ks : List Call) (b : Book) : Type 0 where
   pub handed : b.counts.handed ≡ all_calls handed_by ks
   pub answered : b.counts.answered ≡ all_calls answered_by ks
   pub blank : b.counts.blank ≡ all_calls blank_by ks
   pub taken : b.counts.taken ≡ all_calls taken_by ks
   pub out : b.counts.handed ≡ b.counts.answered + b.counts.blank + b.counts.out
+  pub replied : b.counts.answered + replies_out b.standings ≡ all_calls replied_by ks
   pub few : b.counts.taken ≤ most_taken b.terms.stations b.terms.pages b.terms.bound
 
 -- ── answers
@@ -129,12 +137,17 @@ ReportYields =
 abbrev pub ByReplies : Type 0
 ByReplies = RepliesJudged × RepliesRight × RepliesDecide × ReportYields
 
--- THE PROMISE. In every field, for every own copy, at every moment of every run: the counts are those of the calls. If the farm was steady, weighing and
--- settling did what the rules say; and if there are no more stray copies than the bound, or the check is plain, what was found is right.
+-- THE PROMISE. In every field, for every own copy, at every moment of every run: the counts are those of the calls, and what a check knows of its slips is
+-- what was done about their requests. If the farm was steady, weighing and settling did what the rules say; and if there are no more stray copies than the
+-- bound, or the check is plain, what was found is right.
+pub record Promised (f : Ops) (own tally : List ℕ) (ks : List Call) (b : Book) (g : Stage) : Type 0 where
+  pub counted : Counted ks b
+  pub known : SlipsKnown ks b g
+  pub steady : (holds : ℕ → List ℕ) (last : List ℕ) → FarmHolds f b.terms.stations b.terms.pages holds → Steady f holds own tally ks last →
+      Judged f holds b.terms last g
+      × (PlainTerms b.terms ⊎ (strays b.terms.stations (copies holds) b.terms.pages ≤ b.terms.bound) → Right (copies holds) b.terms last g)
+
 abbrev pub EveryRun : Type 0
 EveryRun =
     (f : Ops) → Laws f → Spread f → (own tally : List ℕ) (ks : List Call) (b : Book) (g : Stage) → Run f own tally ks b g →
-    Counted ks b
-    × ((holds : ℕ → List ℕ) (last : List ℕ) → FarmHolds f b.terms.stations b.terms.pages holds → Steady f holds own tally ks last →
-    Judged f holds b.terms last g
-    × (PlainTerms b.terms ⊎ (strays b.terms.stations (copies holds) b.terms.pages ≤ b.terms.bound) → Right (copies holds) b.terms last g))
+    Promised f own tally ks b g
