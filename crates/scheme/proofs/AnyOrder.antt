@@ -2,7 +2,7 @@
 use mathlib.Core.Path.{◌≡◌, sym, ap, ap₂, subst, ◌∙◌}
 use mathlib.Core.Bool.{true, false}
 use mathlib.Core.Logic.{◌≢◌, ◌⊎◌, inl, inr}
-use Prim.Native.Nat.{ℕ, ◌<◌}
+use Prim.Native.Nat.{ℕ, ◌<◌, ◌≤◌}
 use native.Mathlib.Omega.{arith}
 use native.Mathlib.Decide.{ℕ_discrete, dec_lt}
 use Rattle.field.specs.Field.{Ops, Laws}
@@ -12,11 +12,11 @@ use Rattle.scheme.specs.Pairs.{among}
 use Rattle.scheme.specs.Differences.{Gaps, Solution, Unsolved, Suspect, Differences}
 use Rattle.scheme.specs.Four.{by_way, Known, none_suspect, three_suspect, one_suspect, Fails}
 use Rattle.scheme.specs.Theorem.{Additive}
-use Rattle.scheme.proofs.Codes.{minus_self, minus_back, minus_flip, plus_opposite, opposite_plus}
+use Rattle.scheme.proofs.Codes.{minus_self, minus_back, minus_flip, plus_opposite, opposite_plus, plus_away}
 use Rattle.scheme.proofs.Pairs.{decide_bool}
 use Rattle.scheme.proofs.Suspects.{AgreeUnlessSuspect, agree_by_pairs}
 use Rattle.scheme.proofs.Others.{AgreeBut}
-use Rattle.scheme.proofs.Known.{by_way_inside, by_way_outside, agree_empty, agree_through, agree_outside}
+use Rattle.scheme.proofs.Known.{by_way_inside, by_way_outside, agree_empty, agree_through, agree_outside, known_self}
 
 -- D turned and taken negative
 abbrev opposite : Ops → Gaps → Gaps
@@ -54,7 +54,7 @@ module _ {f : Ops} (l : Laws f) {M N bound : ℕ} {T : Table} where
 
   module _ {E : Gaps} {i : ℕ} (known : Known f M N bound T E i) (adds : ¬ Fails f M N E i) (n : ℕ) (p : Page N n) where
     -- one of the stations other than i
-    abbrev Other : ℕ → Type 0
+    abbrev pub Other : ℕ → Type 0
     Other s = Station M s × (s ≢ i)
 
     skew : (s t : ℕ) → Other s → Other t → E s t n ≡ f.minus 0 (E t s n)
@@ -99,6 +99,22 @@ module _ {f : Ops} (l : Laws f) {M N bound : ℕ} {T : Table} where
         go (no x) (no y) _ =
             ap₂ f.plus (skew s t a b) (skew t u b c) ∙ opposite_plus l (E t s n) (E u t n)
             ∙ ap (f.minus 0) (in_order u t s c b a (omega arith) (omega arith)) ∙ sym (skew s u a c)
+
+    -- the difference of t from u by way of s
+    pub from_one : 1 ≤ i → (s t u : ℕ) → Other s → Other t → Other u → E t u n ≡ f.minus (E s u n) (E s t n)
+    from_one some s t u a b c = go (ℕ_discrete s t) (ℕ_discrete t u) (ℕ_discrete s u)
+      where
+        self : (s : ℕ) → Other s → E s s n ≡ 0
+        self s a = known_self known some s n a.0 p
+
+        go : Dec (s ≡ t) → Dec (t ≡ u) → Dec (s ≡ u) → E t u n ≡ f.minus (E s u n) (E s t n)
+        go (yes st) _ _ =
+            ap (λ t. E t u n) (sym st)
+            ∙ sym (ap (f.minus (E s u n)) (ap (λ t. E s t n) (sym st) ∙ self s a ∙ sym (minus_self l (E s u n))) ∙ minus_back l (E s u n) (E s u n) (code s u a c))
+        go (no _) (yes tu) _ = ap (λ u. E t u n) (sym tu) ∙ self t b ∙ sym (ap (λ u. f.minus (E s u n) (E s t n)) (sym tu) ∙ minus_self l (E s t n))
+        go (no _) (no _) (yes su) =
+            ap (λ u. E t u n) (sym su) ∙ skew t s b a ∙ sym (ap (λ x. f.minus x (E s t n)) (ap (λ u. E s u n) (sym su) ∙ self s a))
+        go (no st) (no tu) (no su) = sym (ap (λ x. f.minus x (E s t n)) (sym (any_order s t u a b c st tu su)) ∙ plus_away l (E s t n) (E t u n) (code t u b c))
 
 pub additive : Additive
 additive f l M N bound T E i known adds s t u n a b c si ti ui st tu su p = any_order l known adds n p s t u (a, si) (b, ti) (c, ui) st tu su

@@ -75,6 +75,31 @@ module _ {f : Ops} (l : Laws f) where
       ∙ ring (codes l) 2 (λ a b. ((nought ⊟ a) ⊞ (nought ⊟ b), nought ⊟ (b ⊞ a))) refl (el l a) (el l b)
       ∙ sym (el_minus l 0 (f.plus b a) ∙ ap₂ (λ z x. (codes l).add z ((codes l).neg x)) (el_zero l) (el_plus l b a)))
 
+  pub less_more : (a b x : ℕ) → f.minus x (f.plus (f.minus a b) x) ≡ f.minus b a
+  less_more a b x =
+      el_injective l _ _ (l.minus_code _ _) (l.minus_code b a)
+      (el_minus l x (f.plus (f.minus a b) x)
+      ∙ ap (λ y. (codes l).add (el l x) ((codes l).neg y)) (el_plus l (f.minus a b) x ∙ ap (λ y. (codes l).add y (el l x)) (el_minus l a b))
+      ∙ ring (codes l) 3 (λ a b x. (x ⊟ (a ⊟ b ⊞ x), b ⊟ a)) refl (el l a) (el l b) (el l x)
+      ∙ sym (el_minus l b a))
+
+  pub more_less : (a b c x : ℕ) → f.plus (f.plus (f.minus a b) x) (f.minus (f.minus b c) x) ≡ f.minus a c
+  more_less a b c x =
+      el_injective l _ _ (l.plus_code _ _) (l.minus_code a c)
+      (el_plus l (f.plus (f.minus a b) x) (f.minus (f.minus b c) x)
+      ∙ ap₂ (codes l).add
+      (el_plus l (f.minus a b) x ∙ ap (λ y. (codes l).add y (el l x)) (el_minus l a b))
+      (el_minus l (f.minus b c) x ∙ ap (λ y. (codes l).add y ((codes l).neg (el l x))) (el_minus l b c))
+      ∙ ring (codes l) 4 (λ a b c x. (a ⊟ b ⊞ x ⊞ (b ⊟ c ⊟ x), a ⊟ c)) refl (el l a) (el l b) (el l c) (el l x)
+      ∙ sym (el_minus l a c))
+
+  pub plus_away : (x y : ℕ) → y < f.size → f.minus (f.plus x y) x ≡ y
+  plus_away x y h =
+      el_injective l _ _ (l.minus_code _ _) h
+      (el_minus l (f.plus x y) x
+      ∙ ap (λ z. (codes l).add z ((codes l).neg (el l x))) (el_plus l x y)
+      ∙ ring (codes l) 2 (λ x y. (x ⊞ y ⊟ x, y)) refl (el l x) (el l y))
+
   pub minus_zero : (a b : ℕ) → a < f.size → b < f.size → f.minus a b ≡ 0 → a ≡ b
   minus_zero a b ha hb z =
       sym (code_mod l a ha) ∙ sym (l.minus_plus a b) ∙ ap (λ x. f.plus x b) z ∙ zero_plus l b ∙ code_mod l b hb
@@ -109,6 +134,22 @@ module _ {f : Ops} (l : Laws f) where
       ∙ ring (codes l) 2 (λ x y. (minus unit ⊠ y ⊞ x, x ⊟ y)) refl (sum (codes l) (point l) N (λ n. el l (d n)) j) (sum (codes l) (point l) N (λ n. el l (e n)) j)
       ∙ sym (el_minus l (power_sum f N d j) (power_sum f N e j)
       ∙ ap₂ (λ x y. (codes l).add x ((codes l).neg y)) (el_power_sum l N d j) (el_power_sum l N e j)))
+
+  pub sum_plus : (N : ℕ) (d e : ℕ → ℕ) (j : ℕ) → power_sum f N (λ n. f.plus (d n) (e n)) j ≡ f.plus (power_sum f N d j) (power_sum f N e j)
+  sum_plus N d e j =
+      el_injective l _ _ (sum_code N _ j) (l.plus_code _ _)
+      (el_power_sum l N (λ n. f.plus (d n) (e n)) j
+      ∙ sym (total_linear (codes l) N (codes l).unit _ _ _ (λ m.
+      ring (codes l) 3 (λ d e x. (unit ⊠ (e ⊠ x) ⊞ d ⊠ x, (d ⊞ e) ⊠ x)) refl (el l (d m)) (el l (e m)) (pow (codes l) (point l m) j)
+      ∙ ap (λ z. (codes l).mul z (pow (codes l) (point l m) j)) (sym (el_plus l (d m) (e m)))))
+      ∙ ring (codes l) 2 (λ x y. (unit ⊠ y ⊞ x, x ⊞ y)) refl (sum (codes l) (point l) N (λ n. el l (d n)) j) (sum (codes l) (point l) N (λ n. el l (e n)) j)
+      ∙ sym (el_plus l (power_sum f N d j) (power_sum f N e j)
+      ∙ ap₂ (codes l).add (el_power_sum l N d j) (el_power_sum l N e j)))
+
+  -- a vector that is 0 has the sums 0
+  pub sum_zero : (N : ℕ) (e : ℕ → ℕ) → ((n : ℕ) → Page N n → e n ≡ 0) → (j : ℕ) → power_sum f N e j ≡ 0
+  sum_zero N e h j =
+      power_sum_same f N e (λ n. f.minus (e n) (e n)) (λ n b. h n b ∙ sym (minus_self (e n))) j ∙ sum_difference N e e j ∙ minus_self (power_sum f N e j)
 
 -- two solutions are one, if they are light enough or all sums are told
 pub solutions_one : {f : Ops} {N : ℕ} → Lawful f N → (t u J : ℕ) (s d e : ℕ → ℕ) → Solves f N t J s d → Solves f N u J s e

@@ -11,6 +11,7 @@ pub mod AtMostOne
 pub mod AtLeastOne
 pub mod AnyOrder
 pub mod Rows
+pub mod Yields
 pub mod TrueGaps
 pub mod TrueFour
 pub mod TrueThree

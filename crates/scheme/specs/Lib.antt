@@ -9,3 +9,4 @@ pub mod Weighing
 pub mod Closing
 pub mod Ending
 pub mod Theorem
+pub mod Yielding

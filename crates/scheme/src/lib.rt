@@ -2,6 +2,7 @@
 #![tactic(auto)]
 
 ghost use Rattle.scheme.specs.Theorem.{Right, One, Total, Additive, Coded, Closes, SuspectByAnswers, Sample};
+ghost use Rattle.scheme.specs.Yielding.{FilledYields};
 
 // In a plain farm, and in any other with no more stray copies than the bound, the rules end in a split of a page without a majority or in a report on
 // the table's own rows, and are never over.
@@ -27,6 +28,11 @@ pub fn additive()
 // Rows that are filled are codes, if row 1 is.
 pub fn coded()
     ensures { Coded }
+{}
+
+// Rows that are filled would tell all that was told, whatever was told.
+pub fn filled_yields()
+    ensures { FilledYields }
 {}
 
 // Any rows are split on a page, or there is a report on them, and never both.
