@@ -5,7 +5,6 @@ pub mod ClosedStands
 pub mod Counted
 pub mod EndingsFound
 pub mod EveryRun
-pub mod FilledRows
 pub mod FirstSums
 pub mod Heard
 pub mod HeardKept
