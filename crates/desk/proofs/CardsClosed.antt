@@ -12,6 +12,7 @@ use Rattle.station.specs.Serving.{index_limit}
 use Rattle.tally.specs.Rows.{tally_size}
 use Rattle.calls.specs.declared.book.Book.{Book}
 use Rattle.calls.specs.declared.phases.Verdict.{Verdict}
+use Rattle.calls.specs.declared.phases.Way.TheVariants.{ByWeighing, BySettling}
 use Rattle.calls.specs.declared.phases.Verdict.TheVariants.{Report, Split, Over}
 use Rattle.calls.specs.declared.standing.Standing.TheVariants.{Free, Done}
 use Rattle.calls.specs.Questions.{PlainTerms}
@@ -45,7 +46,7 @@ module _ (f : Ops) (laws : Laws f) (spread : Spread f) (promise : EveryRun) (M N
   pub judged_right : Judged f (cards f N words) b.terms after g
       × (Plain M N bound ⊎ (strays M (copies (cards f N words)) N ≤ bound) → Right (copies (cards f N words)) b.terms after g)
   judged_right =
-      let r = (promise f laws spread (cards f N words 1) calls.opened calls.calls b g calls.run).1 (cards f N words) after held calls.steady in (
+      let r = (promise f laws spread (cards f N words 1) calls.opened calls.calls b g calls.run).steady (cards f N words) after held calls.steady in (
         r.0,
         λ given. r.1 (by_terms (λ M' N' bound'. Plain M' N' bound' ⊎ (strays M' (copies (cards f N words)) N' ≤ bound') → PlainTerms b.terms ⊎ (strays b.terms.stations (copies (cards f N words)) b.terms.pages ≤ b.terms.bound))
             b.terms 1 M N bound stands (λ h. h) given),
@@ -80,7 +81,7 @@ module _ (f : Ops) (laws : Laws f) (spread : Spread f) (promise : EveryRun) (M N
     all_taken = going.due first_asked.0 first_asked.1 ∙ ap (λ k. k * first_asked.0) (let e : M + 1 - 2 ≡ M - 1 = omega arith in e)
 
     module _ (v : Verdict) (b' : Book) (after : List ℕ) (w : WeighCloses f b tally v b' after) where
-      calls_weighed : Calls f M N bound words before b' (closed None v) after
+      calls_weighed : Calls f M N bound words before b' (closed ByWeighing v) after
       calls_weighed =
           let so = going.so_far in
           record {
@@ -100,8 +101,8 @@ module _ (f : Ops) (laws : Laws f) (spread : Spread f) (promise : EveryRun) (M N
       nobody_again again =
           let t = b'.terms in
           let holds = cards f N words in
-          let o = closing_outcome f holds t after v (judged_right f laws spread promise M N bound words before whole b' (closed None v) after stands_closed calls_weighed).0 in
-          let shape = shape_kept f laws spread (holds 1) calls_weighed.opened calls_weighed.calls b' (closed None v) calls_weighed.run in
+          let o = closing_outcome f holds t after v (judged_right f laws spread promise M N bound words before whole b' (closed ByWeighing v) after stands_closed calls_weighed).0 in
+          let shape = shape_kept f laws spread (holds 1) calls_weighed.opened calls_weighed.calls b' (closed ByWeighing v) calls_weighed.run in
           let there : (k : ℕ) × TrulyAsks f holds t k
           = by_terms (λ M' N' bound'. ((¬ Plain M' N' bound') × ((k : ℕ) × Weighs f M' N' bound' (sums f N' holds) (copies holds 1) (asks k))) → (k : ℕ) × TrulyAsks f holds t k)
           t 1 M N bound stands_closed (λ a. (a.1.0, (a.0, a.1.1))) again in
@@ -114,9 +115,9 @@ module _ (f : Ops) (laws : Laws f) (spread : Spread f) (promise : EveryRun) (M N
 
       pub by_weighing : Checked M N bound f words before b' v after
       by_weighing =
-          let r = judged_right f laws spread promise M N bound words before whole b' (closed None v) after stands_closed calls_weighed in
+          let r = judged_right f laws spread promise M N bound words before whole b' (closed ByWeighing v) after stands_closed calls_weighed in
           record {
-            again = None;
+            way = ByWeighing;
             terms = stands_closed;
             fits = omega (arith, going.fits, finds_size (WeighEnds f b.terms tally) b.terms.stations b.terms.pages tally after v w.finds);
             by_calls = calls_weighed;
@@ -198,7 +199,7 @@ module _ (f : Ops) (laws : Laws f) (spread : Spread f) (promise : EveryRun) (M N
 
       module _ (e : Book) (told : List ℕ) (x : Exchange f (cards f N words k) (Some k) k b' asked e told) (v : Verdict) (d : Book) (after : List ℕ)
           (s : SettleCloses f e told v d after) where
-        calls_settled : Calls f M N bound words before d (closed (Some k) v) after
+        calls_settled : Calls f M N bound words before d (closed (BySettling k) v) after
         calls_settled =
             let so = calls_asked in
             record {
@@ -221,10 +222,10 @@ module _ (f : Ops) (laws : Laws f) (spread : Spread f) (promise : EveryRun) (M N
 
         pub by_settling : Checked M N bound f words before d v after
         by_settling =
-            let r = judged_right f laws spread promise M N bound words before whole d (closed (Some k) v) after
+            let r = judged_right f laws spread promise M N bound words before whole d (closed (BySettling k) v) after
             (subst (λ (b : Book). Stands b.terms 1 M N bound) (sym s.book) (subst (λ t. Stands t 1 M N bound) (sym (terms_kept x)) stands_again)) calls_settled in
             record {
-              again = Some k;
+              way = BySettling k;
               terms = subst (λ (b : Book). Stands b.terms 1 M N bound) (sym s.book) (subst (λ t. Stands t 1 M N bound) (sym (terms_kept x)) stands_again);
               fits = omega (arith, going.fits, ap length w.written, size_kept x, finds_size (SettleEnds f e.terms told) e.terms.stations e.terms.pages told after v s.finds);
               by_calls = calls_settled;

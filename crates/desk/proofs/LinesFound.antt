@@ -1,5 +1,5 @@
 -- What a verdict's text says: what the rules find of the cards and, where that is right, what is true of them.
-use Rattle.std.proofs.Common.{◌≡◌, ℕ, List, Option, ◌++◌, inl, inr, sym, subst}
+use Rattle.std.proofs.Common.{◌≡◌, ℕ, List, ◌++◌, inl, inr, sym, subst}
 use Rattle.field.specs.Field.{Ops}
 use Rattle.binary.specs.Binary.{small}
 use Rattle.algebra.specs.Vectors.{Page}
@@ -8,6 +8,7 @@ use Rattle.scheme.proofs.Tables.{bad_same}
 use Rattle.tally.specs.Rows.{signature_in}
 use Rattle.calls.specs.declared.book.Book.{Book}
 use Rattle.calls.specs.declared.terms.Terms.{Terms}
+use Rattle.calls.specs.declared.phases.Way.{Way}
 use Rattle.calls.specs.declared.phases.Verdict.{Verdict}
 use Rattle.calls.specs.declared.phases.Verdict.TheVariants.{Report, Split, Over}
 use Rattle.calls.specs.Runs.{closed}
@@ -40,10 +41,10 @@ module _ (f : Ops) (holds : ℕ → List ℕ) (t : Terms) (tally : List ℕ) (te
             (λ s n a p. bad_same t.stations t.pages (signature_in tally t.pages) R same n p s a) text lines,
       ))
 
-  pub truth_found : (again : Option ℕ) (v : Verdict) → Right (copies holds) t tally (closed again v) → VerdictText t.stations t.pages tally v text → TrueFind t.stations t.pages holds text
-  truth_found again Over right is = absurd right
-  truth_found again (Split n) right is = inl (n, right.0, right.1, is)
-  truth_found again Report right lines =
+  pub truth_found : (way : Way) (v : Verdict) → Right (copies holds) t tally (closed way v) → VerdictText t.stations t.pages tally v text → TrueFind t.stations t.pages holds text
+  truth_found way Over right is = absurd right
+  truth_found way (Split n) right is = inl (n, right.page, right.undecided, is)
+  truth_found way Report right lines =
       inr (
         right.decided,
         lines_as t.stations t.pages (Bad t.stations (signature_in tally t.pages)) (Differs t.stations (copies holds))
@@ -62,9 +63,9 @@ farm_text M N bound signatures words same before b v after checked body told out
       count = b.counts.taken;
       text = is;
       taken = checked.taken;
-      rules = by_terms (λ M N' bound. RulesFind small M N' bound holds body) b.terms 1 M N bound checked.terms (rules_found small holds b.terms after body v (rules_come small b.terms (sums small b.terms.pages holds) (copies holds) after checked.again v checked.judged) lines);
+      rules = by_terms (λ M N' bound. RulesFind small M N' bound holds body) b.terms 1 M N bound checked.terms (rules_found small holds b.terms after body v (rules_come small b.terms (sums small b.terms.pages holds) (copies holds) after checked.way v checked.judged) lines);
       true = λ given.
-          by_terms (λ M N' bound. TrueFind M N' holds body) b.terms 1 M N bound checked.terms (truth_found small holds b.terms after body checked.again v (checked.right given) lines);
+          by_terms (λ M N' bound. TrueFind M N' holds body) b.terms 1 M N bound checked.terms (truth_found small holds b.terms after body checked.way v (checked.right given) lines);
     })
   where
     holds : ℕ → List ℕ

@@ -1,11 +1,12 @@
 -- A check of a farm's cards, from opening to close: the run that its calls form, and how many sums are taken.
-use Rattle.std.specs.Prelude.{◌≡◌, ℕ, ◌+◌, ◌-◌, ◌*◌, ◌<◌, ◌≤◌, ◌⊎◌, List, Option, length}
+use Rattle.std.specs.Prelude.{◌≡◌, ℕ, ◌+◌, ◌-◌, ◌*◌, ◌<◌, ◌≤◌, ◌⊎◌, List, length}
 use Rattle.field.specs.Field.{Ops}
 use Rattle.scheme.specs.Askings.{first_sums, all_sums, Plain, asks}
 use Rattle.scheme.specs.Farm.{strays}
 use Rattle.scheme.specs.Weighing.{Weighs}
 use Rattle.tally.specs.Rows.{tally_size}
 use Rattle.calls.specs.declared.book.Book.{Book}
+use Rattle.calls.specs.declared.phases.Way.{Way}
 use Rattle.calls.specs.declared.phases.Verdict.{Verdict}
 use Rattle.calls.specs.declared.standing.Standing.TheVariants.{Free, Done}
 use Rattle.calls.specs.Opening.{Opens, Stands}
@@ -52,12 +53,12 @@ module _ (M N bound : ℕ) where
         (d : ℕ) × FirstDue d
         × ((AsksAgain × (count ≡ (M - 1) * d + (all_sums N bound - first_sums M bound))) ⊎ ((¬ AsksAgain) × (count ≡ (M - 1) * d)))
 
-    -- the check closed with this verdict, after a second asking or without one: by its calls, with so many sums taken, and as the promise says of every run
+    -- the check closed with this verdict, by weighing or by settling: by its calls, with so many sums taken, and as the promise says of every run
     pub record Checked (before : List ℕ) (b : Book) (v : Verdict) (after : List ℕ) : Type 0 where
-      pub again : Option ℕ
+      pub way : Way
       pub terms : Stands b.terms 1 M N bound
       pub fits : tally_size M N ≤ length after
-      pub by_calls : Calls f M N bound words before b (closed again v) after
+      pub by_calls : Calls f M N bound words before b (closed way v) after
       pub taken : Taken b.counts.taken
-      pub judged : Judged f (cards f N words) b.terms after (closed again v)
-      pub right : Plain M N bound ⊎ (strays M (copies (cards f N words)) N ≤ bound) → Right (copies (cards f N words)) b.terms after (closed again v)
+      pub judged : Judged f (cards f N words) b.terms after (closed way v)
+      pub right : Plain M N bound ⊎ (strays M (copies (cards f N words)) N ≤ bound) → Right (copies (cards f N words)) b.terms after (closed way v)

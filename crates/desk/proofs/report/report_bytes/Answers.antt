@@ -16,7 +16,7 @@ unwrap-count-requires c =
     let t = c.args.check.now.book.terms in
     list_ok t c.loop-station.station c.args.tally.now c.loop-station.pages c.list.new.out c.list.result
     (rw c.requires.stations c.requires.room) (omega (arith, c.requires.stations)) (omega (arith, c.loop-station-test.array_long, c.args.check.now.narrow.1))
-    (subst (λ v. Listing t (Some v) c.loop-station.station c.args.tally.now c.loop-station.pages c.list.result c.list.new.out) c.requires.report c.list.ensures)
+    (subst (λ v. Listing t (Some v) c.loop-station.station c.args.tally.now c.loop-station.pages c.list.result c.list.new.out) c.requires.report c.list.ensures.lists)
 
 pub loop-station-preserved : goal.loop-station-preserved
 loop-station-preserved c =
@@ -26,7 +26,7 @@ loop-station-preserved c =
       omega arith,
       lines_turn t.pages (Bad c.args.stations rows) c.loop-station.station (c.loop-station.station + 1 - 1) (omega arith) same (vec_items c.loop-station.out)
           c.loop-station.pages c.list.new.out c.unwrap-count.result c.loop-station.invariant.1
-          (subst (λ M. Listed t.pages (Bad M rows c.loop-station.station) c.loop-station.pages c.list.new.out c.unwrap-count.result) c.requires.stations (rw c.unwrap-count.ensures at c.list.ensures).1)
+          (subst (λ M. Listed t.pages (Bad M rows c.loop-station.station) c.loop-station.pages c.list.new.out c.unwrap-count.result) c.requires.stations (rw c.unwrap-count.ensures at c.list.ensures.lists).1)
           (vec_items c.extend_from_slice.new.self)
           (c.in_ok-extend_from_slice.ensures.items ∙ ap (λ xs. vec_items c.loop-station.out ++ xs) (c.as_slice.ensures.value ∙ c.in_ok-lines.ensures)),
     )
@@ -40,7 +40,7 @@ returns c =
       | then-loop-station-test+in_ok-lines+in_ok-extend_from_slice+else-station-stations w ↦
           lines_turn t.pages (Bad c.args.stations rows) c.loop-station.station c.args.stations (omega arith) (omega arith) (vec_items c.loop-station.out)
           c.loop-station.pages w.list.new.out w.unwrap-count.result c.loop-station.invariant.1
-          (subst (λ M. Listed t.pages (Bad M rows c.loop-station.station) c.loop-station.pages w.list.new.out w.unwrap-count.result) c.requires.stations (rw w.unwrap-count.ensures at w.list.ensures).1)
+          (subst (λ M. Listed t.pages (Bad M rows c.loop-station.station) c.loop-station.pages w.list.new.out w.unwrap-count.result) c.requires.stations (rw w.unwrap-count.ensures at w.list.ensures.lists).1)
           (vec_items c.loop-station-test.out)
           (ap vec_items w.out-is ∙ w.in_ok-extend_from_slice.ensures.items ∙ ap (λ xs. vec_items c.loop-station.out ++ xs) (w.as_slice.ensures.value ∙ w.in_ok-lines.ensures))
     ]

@@ -18,11 +18,11 @@ pub card_of-card-requires-clause-station : goal.card_of-card-requires-clause-sta
 card_of-card-requires-clause-station g c =
     let farm = c.args.farm.now in
     let f = g.F.Field.ops in
-    let w = subst (λ r. Weighing f c.args.check c.args.tally.now (Ok r) c.weigh.new.tally) c.in-Ok-Asks.field-0-is c.in-Ok-Asks.ensures in
+    let w = subst (λ r. Weighing f c.args.check c.args.tally.now (Ok r) c.weigh.new.tally) c.in-Ok-Asks.field-0-is c.in-Ok-Asks.ensures.weighing in
     let k = c.in-Ok-Asks.again.phase.station in
     omega (
       arith,
-      c.station-station.ensures,
+      c.station-station.ensures.station,
       one_of f g.met.F.Field.lawful g.met.F.Field.spread c.requires.promise farm.stations farm.pages farm.bound c.args.words.now c.requires.whole c.args.check.book c.args.tally.now
           c.requires.going.0 c.requires.going.1 k c.in-Ok-Asks.again.book c.weigh.new.tally w,
     )
@@ -31,9 +31,9 @@ pub ask-requires : goal.ask-requires
 ask-requires g c =
     let farm = c.args.farm.now in
     let f = g.F.Field.ops in
-    let w = subst (λ r. Weighing f c.args.check c.args.tally.now (Ok r) c.weigh.new.tally) c.in-Ok-Asks.field-0-is c.in-Ok-Asks.ensures in
+    let w = subst (λ r. Weighing f c.args.check c.args.tally.now (Ok r) c.weigh.new.tally) c.in-Ok-Asks.field-0-is c.in-Ok-Asks.ensures.weighing in
     let k = c.in-Ok-Asks.again.phase.station in
-    subst (λ s. Ready (card_row f c.card_of-card.result.words.now) (Some k) s c.in-Ok-Asks.again.book (length c.weigh.new.tally)) (sym c.station-station.ensures)
+    subst (λ s. Ready (card_row f c.card_of-card.result.words.now) (Some k) s c.in-Ok-Asks.again.book (length c.weigh.new.tally)) (sym c.station-station.ensures.station)
     (second_ready f g.met.F.Field.lawful g.met.F.Field.spread c.requires.promise farm.stations farm.pages farm.bound c.args.words.now c.requires.whole c.args.check.book c.args.tally.now
     c.requires.going.0 c.requires.going.1 k c.in-Ok-Asks.again.book c.weigh.new.tally w _)
 
@@ -41,18 +41,18 @@ pub unreachable-requires : goal.unreachable-requires
 unreachable-requires g c =
     let farm = c.args.farm.now in
     let f = g.F.Field.ops in
-    let w = subst (λ r. Weighing f c.args.check c.args.tally.now (Ok r) c.weigh.new.tally) c.in-Ok-Asks.field-0-is c.in-Ok-Asks.ensures in
+    let w = subst (λ r. Weighing f c.args.check c.args.tally.now (Ok r) c.weigh.new.tally) c.in-Ok-Asks.field-0-is c.in-Ok-Asks.ensures.weighing in
     let k = c.in-Ok-Asks.again.phase.station in
     let x = as_asked f farm.pages c.args.words.now c.card_of-card.result.words.now k c.station-station.result c.in-Ok-Asks.again.book c.weigh.new.tally c.ask.new.check.book c.ask.new.tally
-    c.station-station.ensures c.card_of-card.ensures c.ask.ensures.exchange in
+    c.station-station.ensures.station c.card_of-card.ensures c.ask.ensures.exchange in
     settles_ready f g.met.F.Field.lawful g.met.F.Field.spread c.requires.promise farm.stations farm.pages farm.bound c.args.words.now c.requires.whole c.args.check.book c.args.tally.now
-    c.requires.going.0 c.requires.going.1 k c.in-Ok-Asks.again.book c.weigh.new.tally w c.ask.new.check.book c.ask.new.tally x c.in-Err-settle.field-0.refusal c.in-Err-settle.ensures.0.0
+    c.requires.going.0 c.requires.going.1 k c.in-Ok-Asks.again.book c.weigh.new.tally w c.ask.new.check.book c.ask.new.tally x c.in-Err-settle.field-0.refusal c.in-Err-settle.ensures.settling.0.0
 
 pub returns-in-Ok-Closes : goal.returns-in-Ok-Closes
 returns-in-Ok-Closes g c = λ before going.
     let farm = c.args.farm.now in
     let f = g.F.Field.ops in
-    let w = subst (λ r. Weighing f c.args.check c.args.tally.now (Ok r) c.weigh.new.tally) c.in-Ok-Closes.field-0-is c.in-Ok-Closes.ensures in
+    let w = subst (λ r. Weighing f c.args.check c.args.tally.now (Ok r) c.weigh.new.tally) c.in-Ok-Closes.field-0-is c.in-Ok-Closes.ensures.weighing in
     by_weighing f g.met.F.Field.lawful g.met.F.Field.spread c.requires.promise farm.stations farm.pages farm.bound c.args.words.now c.requires.whole c.args.check.book c.args.tally.now
     before going c.in-Ok-Closes.closed.phase.verdict c.in-Ok-Closes.closed.book c.weigh.new.tally w
 
@@ -60,9 +60,9 @@ pub returns-in-Ok : goal.returns-in-Ok
 returns-in-Ok g c = λ before going.
     let farm = c.args.farm.now in
     let f = g.F.Field.ops in
-    let w = subst (λ r. Weighing f c.args.check c.args.tally.now (Ok r) c.weigh.new.tally) c.in-Ok-Asks.field-0-is c.in-Ok-Asks.ensures in
+    let w = subst (λ r. Weighing f c.args.check c.args.tally.now (Ok r) c.weigh.new.tally) c.in-Ok-Asks.field-0-is c.in-Ok-Asks.ensures.weighing in
     let k = c.in-Ok-Asks.again.phase.station in
     let x = as_asked f farm.pages c.args.words.now c.card_of-card.result.words.now k c.station-station.result c.in-Ok-Asks.again.book c.weigh.new.tally c.ask.new.check.book c.ask.new.tally
-    c.station-station.ensures c.card_of-card.ensures c.ask.ensures.exchange in
+    c.station-station.ensures.station c.card_of-card.ensures c.ask.ensures.exchange in
     by_settling f g.met.F.Field.lawful g.met.F.Field.spread c.requires.promise farm.stations farm.pages farm.bound c.args.words.now c.requires.whole c.args.check.book c.args.tally.now
-    before going k c.in-Ok-Asks.again.book c.weigh.new.tally w c.ask.new.check.book c.ask.new.tally x c.in-Ok.closed.phase.verdict c.in-Ok.closed.book c.settle.new.tally c.in-Ok.ensures
+    before going k c.in-Ok-Asks.again.book c.weigh.new.tally w c.ask.new.check.book c.ask.new.tally x c.in-Ok.closed.phase.verdict c.in-Ok.closed.book c.settle.new.tally c.in-Ok.ensures.settling
