@@ -1,5 +1,5 @@
 -- In the farm with one bad copy weighing asks station 4 again: the pairs of station 4 have no solution by sum 1.
-use Rattle.std.proofs.Common.{◌≡◌, ℕ, refl, sym, ap, subst, ◌∙◌, ◌⊎◌, List, Option, Some, None, inl, inr, true, false, arith}
+use Rattle.std.proofs.Common.{◌≡◌, ℕ, refl, sym, ap, subst, ◌∙◌, ◌⊎◌, List, inl, inr, true, false, arith}
 use Rattle.prime.specs.Prime.{prime}
 use Rattle.prime.specs.Laws.{prime_laws, prime_spread}
 use Rattle.scheme.specs.Askings.{Plain, Outcome, over, split, filled, asks}
@@ -16,6 +16,8 @@ use Rattle.calls.specs.declared.terms.Terms.{Terms}
 use Rattle.calls.specs.declared.phases.Verdict.{Verdict}
 use Rattle.calls.specs.Opening.{Stands}
 use Rattle.calls.specs.Promise.{Judged}
+use Rattle.calls.specs.declared.phases.Way.{Way}
+use Rattle.calls.specs.declared.phases.Way.TheVariants.{ByWeighing, BySettling}
 use Rattle.calls.specs.Runs.{closed}
 use Rattle.calls.proofs.JudgedBy.{alike_asks}
 use Rattle.desk.proofs.Asked.{by_terms}
@@ -113,12 +115,12 @@ alone : (o : Outcome) → Weighs prime 4 3 1 told (held 1) o → o ≡ asks 4
 alone o w = alike_asks o ((one_outcome prime prime_laws prime_spread 4 3 1 (omega arith) told told (held 1) o (asks 4)).0 w asks_four)
 
 -- a check of these cards closes after a second asking, of station 4
-pub asked_four : (t : Terms) → Stands t 1 4 3 1 → (tally : List ℕ) (again : Option ℕ) (v : Verdict)
-    → Judged prime (cards prime 3 one_bad) t tally (closed again v) → again ≡ Some 4
-asked_four t stands tally (Some k) v judged =
+pub asked_four : (t : Terms) → Stands t 1 4 3 1 → (tally : List ℕ) (way : Way) (v : Verdict)
+    → Judged prime (cards prime 3 one_bad) t tally (closed way v) → way ≡ BySettling 4
+asked_four t stands tally (BySettling k) v judged =
     let same = alone (asks k) (by_terms (λ M N bound. Weighs prime M N bound (sums prime N (cards prime 3 one_bad)) (held 1) (asks k)) t 1 4 3 1 stands judged.0.1) in
     cc
-asked_four t stands tally None v judged =
+asked_four t stands tally ByWeighing v judged =
     let o = closing_outcome prime (cards prime 3 one_bad) t tally v judged in
     elim o.1 [
       | inl hand ↦ absurd (four_not_plain 1 (omega arith) (by_terms Plain t 1 4 3 1 stands hand.2))

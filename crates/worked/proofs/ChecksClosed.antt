@@ -1,5 +1,5 @@
 -- A check of four cards closes with the verdict that its pages have, and takes four sums where a station is asked again.
-use Rattle.std.proofs.Common.{◌≡◌, ℕ, ◌+◌, ◌*◌, ◌≤◌, ◌<◌, List, Option, length, inl, inr, refl, ap, ◌∙◌, arith}
+use Rattle.std.proofs.Common.{◌≡◌, ℕ, ◌+◌, ◌*◌, ◌≤◌, ◌<◌, List, length, inl, inr, refl, ap, ◌∙◌, arith}
 use native.Mathlib.Decide.{ℕ_discrete}
 use Rattle.algebra.specs.Vectors.{Page}
 use Rattle.prime.specs.Prime.{prime}
@@ -10,6 +10,7 @@ use Rattle.calls.specs.declared.book.Book.{Book}
 use Rattle.calls.specs.declared.phases.Verdict.{Verdict}
 use Rattle.calls.specs.declared.phases.Verdict.TheVariants.{Report, Split, Over}
 use Rattle.calls.specs.Opening.{Stands}
+use Rattle.calls.specs.declared.phases.Way.{Way}
 use Rattle.calls.specs.Runs.{closed}
 use Rattle.calls.specs.Steady.{copies}
 use Rattle.calls.specs.Promise.{Right}
@@ -34,36 +35,36 @@ module _ (bound : ℕ) (low : bound < 3) (words : List ℕ) (whole : length word
     calls = checked.by_calls.calls;
     book = b;
     terms = checked.terms;
-    again = checked.again;
+    way = checked.way;
     run = checked.by_calls.run;
     steady = checked.by_calls.steady;
   }
 
 module _ (before after : List ℕ) (b : Book) where
   pub one_bad_reports : (v : Verdict) → Checked 4 3 1 prime one_bad before b v after → v ≡ Report
-  one_bad_reports v checked = by checked.again v checked.terms (checked.right (inr one_stray))
+  one_bad_reports v checked = by checked.way v checked.terms (checked.right (inr one_stray))
     where
-      by : (again : Option ℕ) (v : Verdict) → Stands b.terms 1 4 3 1 → Right (copies (cards prime 3 one_bad)) b.terms after (closed again v) → v ≡ Report
-      by again Report stands right = refl
-      by again (Split n) stands right =
-          let r = by_terms (λ M N bound. Page N n × (¬ Decided M (copies (cards prime 3 one_bad)) n)) b.terms 1 4 3 1 stands right in
+      by : (way : Way) (v : Verdict) → Stands b.terms 1 4 3 1 → Right (copies (cards prime 3 one_bad)) b.terms after (closed way v) → v ≡ Report
+      by way Report stands right = refl
+      by way (Split n) stands right =
+          let r = by_terms (λ M N bound. Page N n × (¬ Decided M (copies (cards prime 3 one_bad)) n)) b.terms 1 4 3 1 stands (right.page, right.undecided) in
           absurd (r.1 (one_bad_decided n r.0))
-      by again Over stands right = absurd right
+      by way Over stands right = absurd right
 
   pub two_halves_splits : (v : Verdict) → Checked 4 3 2 prime two_halves before b v after → v ≡ Split 1
-  two_halves_splits v checked = by checked.again v checked.terms (checked.right (inr two_stray))
+  two_halves_splits v checked = by checked.way v checked.terms (checked.right (inr two_stray))
     where
-      by : (again : Option ℕ) (v : Verdict) → Stands b.terms 1 4 3 2 → Right (copies (cards prime 3 two_halves)) b.terms after (closed again v) → v ≡ Split 1
-      by again Report stands right =
+      by : (way : Way) (v : Verdict) → Stands b.terms 1 4 3 2 → Right (copies (cards prime 3 two_halves)) b.terms after (closed way v) → v ≡ Split 1
+      by way Report stands right =
           let r = by_terms (λ M N bound. Reports M N (copies (cards prime 3 two_halves))) b.terms 1 4 3 2 stands right.decided in
           absurd (two_halves_undecided (r 1 (omega arith, omega arith)))
-      by again (Split n) stands right =
-          let r = by_terms (λ M N bound. Page N n × (¬ Decided M (copies (cards prime 3 two_halves)) n)) b.terms 1 4 3 2 stands right in
+      by way (Split n) stands right =
+          let r = by_terms (λ M N bound. Page N n × (¬ Decided M (copies (cards prime 3 two_halves)) n)) b.terms 1 4 3 2 stands (right.page, right.undecided) in
           elim (ℕ_discrete n 1) [
             | yes e ↦ ap Split e
             | no other ↦ absurd (r.1 (two_halves_decided n r.0 (omega (arith, r.0, other))))
           ]
-      by again Over stands right = absurd right
+      by way Over stands right = absurd right
 
 -- one sum of each of three stations, and one more of the station that is asked again
 pub one_bad_taken : (count : ℕ) → Taken 4 3 1 prime one_bad count → count ≡ 4

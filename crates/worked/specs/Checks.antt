@@ -1,5 +1,5 @@
 -- Checks worked through their calls: steady runs that end in a report and in a split.
-use Rattle.std.specs.Prelude.{◌≡◌, ℕ, ◌≤◌, List, [], ◌∷◌, Some, Option}
+use Rattle.std.specs.Prelude.{◌≡◌, ℕ, ◌≤◌, List, [], ◌∷◌}
 use Rattle.field.specs.Field.{Ops}
 use Rattle.prime.specs.Prime.{prime}
 use Rattle.wire.specs.declared.asked.Asked.TheVariants.{Sums}
@@ -13,6 +13,8 @@ use Rattle.calls.specs.declared.book.Book.{Book}
 use Rattle.calls.specs.declared.phases.Verdict.{Verdict}
 use Rattle.calls.specs.declared.phases.Verdict.TheVariants.{Report, Split}
 use Rattle.calls.specs.Opening.{Stands}
+use Rattle.calls.specs.declared.phases.Way.{Way}
+use Rattle.calls.specs.declared.phases.Way.TheVariants.{BySettling}
 use Rattle.calls.specs.Runs.{closed, Call, Run}
 use Rattle.calls.specs.Steady.{FarmHolds, copies, Steady}
 use Rattle.calls.specs.Promise.{Differs}
@@ -27,7 +29,7 @@ abbrev pub two_halves : List ℕ
 two_halves = 5 ∷ 0 ∷ 0 ∷ 5 ∷ 0 ∷ 0 ∷ 6 ∷ 0 ∷ 0 ∷ 6 ∷ 0 ∷ 0 ∷ []
 
 -- The stations hold these rows, with no more stray copies than the bound and too many pages for a plain check; and a steady run of calls on a check
--- of them, from its opening, closed with this verdict, after a second asking or without one.
+-- of them, from its opening, closed with this verdict, by weighing or by settling.
 pub record Closes (f : Ops) (M N bound : ℕ) (holds : ℕ → List ℕ) (v : Verdict) : Type 0 where
   pub farm : FarmHolds f M N holds
   pub few : strays M (copies holds) N ≤ bound
@@ -38,14 +40,14 @@ pub record Closes (f : Ops) (M N bound : ℕ) (holds : ℕ → List ℕ) (v : Ve
   pub calls : List Call
   pub book : Book
   pub terms : Stands book.terms 1 M N bound
-  pub again : Option ℕ
-  pub run : Run f (holds 1) opened calls book (closed again v)
+  pub way : Way
+  pub run : Run f (holds 1) opened calls book (closed way v)
   pub steady : Steady f holds (holds 1) opened calls last
 
 pub record WorkedChecks : Type 0 where
   pub report : Closes prime 4 3 1 (cards prime 3 one_bad) Report
-  -- its second asking is of station 4
-  pub asked : report.again ≡ Some 4
+  -- it closed by settling, after station 4 was asked again
+  pub asked : report.way ≡ BySettling 4
   -- it takes sum 1 of three stations, and sum 2 of one
   pub taken : report.book.counts.taken ≡ 4
   -- what station 4 answers when it is asked for sum 2, which is 4239: in a steady run the accepted reply has these words

@@ -19,7 +19,7 @@ returns c =
     let splits = subst (λ v. Checked 4 3 2 prime two_halves two.0 d v two.1) (two_halves_splits two.0 two.1 d _ two.2) two.2 in
     record {
       report = closes 1 (omega arith) one_bad refl one_stray one.0 one.1 b Report reports;
-      asked = asked_four b.terms reports.terms one.1 reports.again Report reports.judged;
+      asked = asked_four b.terms reports.terms one.1 reports.way Report reports.judged;
       taken = one_bad_taken _ reports.taken;
       reply = replied;
       bad = one_bad_differs;
