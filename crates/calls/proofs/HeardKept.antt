@@ -18,6 +18,7 @@ use Rattle.calls.specs.Slips.{standing, standing_after}
 use Rattle.calls.specs.Closing.{WeighAsks}
 use Rattle.calls.specs.Runs.{Stage, first, second, closed, AsksOnly, Call, Step, Run, slips, takes, returns, weigh_closes, weigh_asks, weigh_refused, settle_closes, settle_refused, lists, opened, called}
 use Rattle.calls.specs.Replies.{Gives, Replied, OnlyReplied, RepliedTo, FirstReplied, SecondReplied, AllReplied, AskedFor}
+use Rattle.calls.proofs.Cleared.{slip_cleared, take_cleared, return_cleared}
 use Rattle.calls.proofs.AsksOne.{asks_one}
 use Rattle.calls.specs.States.{AskedAt}
 use Rattle.calls.proofs.Shapes.{StageAsks, Shape}
@@ -95,14 +96,15 @@ module _ (f : Ops) (l : Laws f) (spread : Spread f) (b : Book) (ks : List Call) 
       heard s w a r_in = absurd (omega (arith, r_in, ap (λ s. reply_in (standing b' s)) (sym a), ap reply_in free))
 
   step_heard : {c : Call} {b' : Book} {g g' : Stage} → Step f b g c b' g' → Shape f b g → Hears b.terms b g ks → Hears b.terms b' g' (c ∷ ks)
-  step_heard (slips {b' = b'} {g = g} only {s = s} {r = Ok p} asked x) shape h =
+  step_heard (slips {b' = b'} {g = g} only {s = s} {q = w} {r = Ok p} asked x) shape h =
+      let cleared = slip_cleared b only s (length w) x.0 in
       quiet b.terms b'.question g b'.standings ks _ (λ a s i v r. r)
       (with_question b' x.1.keeps.question
-      (moved_heard b.terms b.question g b.standings b'.standings s Out x.1.standings (place_inside b s x.0.1.0) ks
-      (ap reply_in (free_if (standing b s) x.0.1.1.1.0 x.0.1.1.1.1.0)) h))
+      (moved_heard b.terms b.question g b.standings b'.standings s Out x.1.standings (place_inside b s cleared.station) ks
+      (ap reply_in cleared.free) h))
   step_heard (slips {b' = b'} {g = g} only {r = Err e} asked x) shape h = quiet b.terms b'.question g b'.standings ks _ (λ a s i v r. r) (with_book x.1 h)
   step_heard (takes {b' = b'} {g = g} only {p = p} {w = w} {t = t} {t' = t'} {r = Ok u} asked x) shape h =
-      let a = x.0.1.0 in
+      let a = (take_cleared f b p.request w (length t) x.0).here in
       let within = shape.stations p.request.station (not_free (standing b p.request.station) a.1) in
       with_question b' x.1.keeps.question
       (taken_heard b.terms b.question g b.standings b'.standings p.request.station Took x.1.standings (place_inside b p.request.station within)
@@ -111,11 +113,12 @@ module _ (f : Ops) (l : Laws f) (spread : Spread f) (b : Book) (ks : List Call) 
   step_heard (takes {b' = b'} {g = g} only {r = Err e} asked x) shape h = quiet b.terms b'.question g b'.standings ks _ (λ a s i v r. r) (with_book x.1 h)
   step_heard (returns {b' = b'} {g = g} {p = p} {r = Ok r} x) shape h =
       let s = p.request.station in
+      let here = return_cleared b p.request x.0 in
       quiet b.terms b'.question g b'.standings ks _ (λ a s i v r. r)
       (with_question b' x.1.keeps.question
       (moved_heard b.terms b.question g b.standings b'.standings s (standing_after r) x.1.standings
-      (place_inside b s (shape.stations s (not_free (standing b s) x.0.0.1))) ks
-      (reply_stays (standing b s) r x.0.0.1 x.1.says) h))
+      (place_inside b s (shape.stations s (not_free (standing b s) here.1))) ks
+      (reply_stays (standing b s) r here.1 x.1.says) h))
   step_heard (returns {b' = b'} {g = g} {r = Err e} x) shape h = quiet b.terms b'.question g b'.standings ks _ (λ a s i v r. r) (with_book x.1 h)
   step_heard (weigh_closes {b' = b'} {v = v} {t = t} x) shape h =
       quiet b.terms b'.question (closed ByWeighing v) b'.standings ks _ (λ a s i v r. r)

@@ -1,6 +1,7 @@
 pub mod AsksOne
 pub mod BadPages
 pub mod CallsAdded
+pub mod Cleared
 pub mod ClosedStands
 pub mod Counted
 pub mod EndingsFound

@@ -12,6 +12,7 @@ use Rattle.calls.specs.Standings.{SlipOut, reply_out, replies_out}
 use Rattle.calls.specs.Slips.{standing, standing_after, returned_as, one_handed, more_taken, one_back}
 use Rattle.calls.specs.Promise.{answered_by, replied_by, all_calls}
 use Rattle.calls.specs.Runs.{Stage, first, Call, Step, Run, slips, takes, returns, weigh_closes, weigh_asks, weigh_refused, settle_closes, settle_refused, lists, opened, called}
+use Rattle.calls.proofs.Cleared.{slip_cleared, take_cleared, return_cleared}
 use Rattle.calls.proofs.AsksOne.{asks_one}
 use Rattle.calls.proofs.Shapes.{Shape}
 use Rattle.calls.proofs.ShapesKept.{shape_kept, all_done}
@@ -41,17 +42,20 @@ back b b' s Blank out says counts is inside =
 
 module _ (f : Ops) (l : Laws f) (spread : Spread f) where
   step_kept : {b b' : Book} {g g' : Stage} {c : Call} → Step f b g c b' g' → Shape f b g → kept b' ≡ replied_by c + kept b
-  step_kept (slips {b = b} {b' = b'} only {s = s} {r = Ok p} asked x) shape =
-      omega (arith, replies_set b b' s Out x.1.standings (place_inside b s x.0.1.0), ap reply_out (free_if (standing b s) x.0.1.1.1.0 x.0.1.1.1.1.0), ap (λ (c : Counts). c.answered) x.1.counts)
+  step_kept (slips {b = b} {b' = b'} only {s = s} {q = w} {r = Ok p} asked x) shape =
+      let cleared = slip_cleared b only s (length w) x.0 in
+      omega (arith, replies_set b b' s Out x.1.standings (place_inside b s cleared.station), ap reply_out cleared.free, ap (λ (c : Counts). c.answered) x.1.counts)
   step_kept (slips {b = b} {b' = b'} only {r = Err e} asked x) shape = omega (arith, same_kept b b' x.1)
-  step_kept (takes {b = b} {b' = b'} only {p = p} {r = Ok u} asked x) shape =
+  step_kept (takes {b = b} {b' = b'} only {p = p} {w = w} {t = t} {r = Ok u} asked x) shape =
       let s = p.request.station in
-      omega (arith, replies_set b b' s Heard x.1.standings (place_inside b s (shape.stations s (not_free (standing b s) x.0.1.0.1))),
-      ap reply_out (out_if (standing b s) x.0.1.0.1 x.0.1.1.0), ap (λ (c : Counts). c.answered) x.1.counts)
+      let cleared = take_cleared f b p.request w (length t) x.0 in
+      omega (arith, replies_set b b' s Heard x.1.standings (place_inside b s (shape.stations s (not_free (standing b s) cleared.here.1))),
+      ap reply_out cleared.asked, ap (λ (c : Counts). c.answered) x.1.counts)
   step_kept (takes {b = b} {b' = b'} only {r = Err e} asked x) shape = omega (arith, same_kept b b' x.1)
   step_kept (returns {b = b} {b' = b'} {p = p} {r = Ok r} x) shape =
       let s = p.request.station in
-      omega (arith, back b b' s r x.0.0.1 x.1.says x.1.counts x.1.standings (place_inside b s (shape.stations s (not_free (standing b s) x.0.0.1))))
+      let here = return_cleared b p.request x.0 in
+      omega (arith, back b b' s r here.1 x.1.says x.1.counts x.1.standings (place_inside b s (shape.stations s (not_free (standing b s) here.1))))
   step_kept (returns {b = b} {b' = b'} {r = Err e} x) shape = omega (arith, same_kept b b' x.1)
   step_kept (weigh_closes {b = b} {b' = b'} x) shape = omega (arith, same_kept b b' x.book)
   step_kept (weigh_asks {b = b} {b' = b'} {k = k} {t = t} x) shape =

@@ -16,6 +16,7 @@ use Rattle.calls.specs.Closing.{WeighEnds, SettleEnds, WeighsBy}
 use Rattle.calls.specs.Runs.{Stage, first, second, closed, AsksOnly, Call, take, Step, Run, slips, takes, returns, weigh_closes, weigh_asks, weigh_refused, settle_closes, settle_refused, lists, opened, called}
 use Rattle.calls.specs.Steady.{OneTally}
 use Rattle.calls.specs.Replies.{Gives, Replied, AsTold, Unfilled, JudgedBy, SettlesBy, RepliesJudged}
+use Rattle.calls.proofs.Cleared.{take_cleared}
 use Rattle.calls.proofs.AsksOne.{asks_one}
 use Rattle.calls.proofs.Shapes.{StageAsks, Shape}
 use Rattle.calls.proofs.ShapesKept.{shape_kept, all_done, terms_stay}
@@ -76,10 +77,11 @@ module _ (f : Ops) (l : Laws f) (spread : Spread f) (own : List ℕ) where
     step_judged tally (slips {g = g} only {r = r} asked x) shape h before last one = quiet g _ last last (λ a s i v r. r) refl (before last one)
     step_judged tally (takes {g = g} only {p = p} {w = w} {t = t} {t' = t'} {r = Ok u} asked x) shape h before last (is, one) =
         let m = before t one in
-        let a = x.0.1.0 in
+        let cleared = take_cleared f b p.request w (length t) x.0 in
+        let a = cleared.here in
         let s = p.request.station in
         let within = shape.stations s (not_free (standing b s) a.1) in
-        let out = ap reply_in (out_if (standing b s) a.1 x.0.1.1.0) in
+        let out = ap reply_in cleared.asked in
         let here = asked_here f b g shape s within (not_done (standing b s) a.1) only asked in
         subst (Moment f own b.terms g (take p w t (Ok u) t' ∷ ks)) (sym is) (
           taken_stands f own b.terms b.question b.standings g only asked shape.question ks h p w x.1.values t t' u (a.0.2, a.0.3, a.0.4) within

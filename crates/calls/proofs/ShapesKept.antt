@@ -16,13 +16,14 @@ use Rattle.calls.specs.declared.phases.Way.TheVariants.{ByWeighing, BySettling}
 use Rattle.calls.specs.Slips.{standing, standing_after, Keeps}
 use Rattle.calls.specs.Closing.{closing}
 use Rattle.calls.specs.Runs.{Stage, closed, Call, Step, Run, slips, takes, returns, weigh_closes, weigh_asks, weigh_refused, settle_closes, settle_refused, lists, opened, called}
+use Rattle.calls.proofs.Cleared.{open_cleared, slip_cleared, take_cleared, return_cleared, close_cleared}
 use Rattle.calls.proofs.AsksOne.{asks_one}
 use Rattle.calls.proofs.Shapes.{StageAsks, Shape}
 use Rattle.calls.proofs.StandingsSet.{standing_other, standing_start, not_free, not_done, done_if}
 
 -- where an asking ends every reply is in
 pub all_done : (b : Book) (room : ℕ) → Accepted (closing b room) → (s : ℕ) → Within 2 b.terms.stations s → standing b s ≡ Done
-all_done b room accepted s within = done_if (standing b s) (λ lacking. accepted.1.1.0 s (omega arith) (within, lacking))
+all_done b room accepted = (close_cleared b room accepted).done
 
 -- one station of 2 .. M moves
 stations_then : (b b' : Book) (s : ℕ) (x : Standing) → b'.terms ≡ b.terms → b'.standings ≡ set b.standings s x → Within 2 b.terms.stations s
@@ -62,11 +63,15 @@ module _ (f : Ops) where
 
   module _ (laws : Laws f) (spread : Spread f) where
     step_kept : {b b' : Book} {g g' : Stage} {c : Call} → Step f b g c b' g' → Shape f b g → Shape f b' g'
-    step_kept (slips only {s = s} {r = Ok slip} asked r) h = moved s Out r.1.keeps r.1.standings r.0.1.0 r.0.1.1.1.1.0 h
+    step_kept (slips {b = b} only {s = s} {q = w} {r = Ok slip} asked r) h =
+        let cleared = slip_cleared b only s (length w) r.0 in
+        moved s Out r.1.keeps r.1.standings cleared.station (λ e. let free = cleared.free in cc) h
     step_kept (slips only {r = Err e} asked r) h = stays r.1 h
-    step_kept (takes only {p = p} {r = Ok u} asked r) h = slip_moved p.request.station Heard r.1.keeps r.1.standings r.0.1.0.1 h
+    step_kept (takes {b = b} only {p = p} {w = w} {t = t} {r = Ok u} asked r) h =
+        slip_moved p.request.station Heard r.1.keeps r.1.standings (take_cleared f b p.request w (length t) r.0).here.1 h
     step_kept (takes only {r = Err e} asked r) h = stays r.1 h
-    step_kept (returns {p = p} {r = Ok a} r) h = slip_moved p.request.station (standing_after a) r.1.keeps r.1.standings r.0.0.1 h
+    step_kept (returns {b = b} {p = p} {r = Ok a} r) h =
+        slip_moved p.request.station (standing_after a) r.1.keeps r.1.standings (return_cleared b p.request r.0).1 h
     step_kept (returns {r = Err e} r) h = stays r.1 h
     step_kept (weigh_closes {v = v} {t = t} x) h = closes ByWeighing v (length t) x.book x.accepted h
     step_kept (weigh_asks {b = b} {b' = b'} {k = k} {t = t} x) h =
@@ -102,8 +107,9 @@ terms_stay (settle_refused e x) = ap (λ (b : Book). b.terms) x.1
 terms_stay (lists x) = refl
 
 pub shape_kept : (f : Ops) → Laws f → Spread f → (own tally : List ℕ) (ks : List Call) (b : Book) (g : Stage) → Run f own tally ks b g → Shape f b g
-shape_kept f laws spread own tally _ b _ (opened o) = record {
-  pages = subst (λ N. Within 1 (page_limit f) N) (sym o.terms.2) o.accepted.1.1.0;
+shape_kept f laws spread own tally _ b _ (opened {number = number} {M = M} {N = N} {bound = bound} {t = t} o) = record {
+  pages =
+      subst (λ N. Within 1 (page_limit f) N) (sym o.terms.2) (open_cleared f number M N bound (length own) (length t) o.accepted).pages;
   question = o.starts.question;
   stations = λ s off. absurd (off (standing_start b.standings o.starts.standings s));
   others = λ s within unasked. absurd (unasked tt);

@@ -18,6 +18,7 @@ use Rattle.calls.specs.Slips.{standing, standing_after, returned_as, Asks, OutHe
 use Rattle.calls.specs.Closing.{WeighAsks}
 use Rattle.calls.specs.Runs.{Stage, first, second, closed, Call, slip, take, return, weigh, settle, Step, Run, slips, takes, returns, weigh_closes, weigh_asks, weigh_refused, settle_closes, settle_refused, lists, opened, called}
 use Rattle.calls.specs.States.{IsSlip, IsReply, IsReturn, IsAbout, Newest, AskedBy, HeardBy, DoneBy, AskedAt, SaidRight, SlipsKnown}
+use Rattle.calls.proofs.Cleared.{slip_cleared, take_cleared, return_cleared}
 use Rattle.calls.proofs.AsksOne.{asks_one}
 use Rattle.calls.proofs.FirstSums.{first_sums_between}
 use Rattle.calls.proofs.Shapes.{StageAsks, Shape}
@@ -200,16 +201,18 @@ module _ (f : Ops) (l : Laws f) (spread : Spread f) (b b' : Book) (k : ℕ) (t t
 module _ (f : Ops) (l : Laws f) (spread : Spread f) where
   step_known : {b b' : Book} {g g' : Stage} {c : Call} {ks : List Call} → Step f b g c b' g' → Shape f b g → Known ks b g → Known (c ∷ ks) b' g'
   step_known {b = b} {b' = b'} {g = g} {ks = ks} (slips only {s = s} {q = w} {q' = w'} {r = Ok p} asked x) shape h =
-      acted b b' s p.request Out x.1.keeps x.1.standings (place_inside b s x.0.1.0) x.1.request _ ks (slip_leaves s w w' p) g shape.question h
+      acted b b' s p.request Out x.1.keeps x.1.standings (place_inside b s (slip_cleared b only s (length w) x.0).station) x.1.request _ ks (slip_leaves s w w' p) g shape.question h
   step_known {b = b} {b' = b'} {g = g} {ks = ks} (slips only {r = Err e} asked x) shape h = unmoved b _ ks (λ q a. a) g b' x.1 h
   step_known {b = b} {b' = b'} {g = g} {ks = ks} (takes only {p = p} {w = w} {t = t} {t' = t'} {r = Ok u} asked x) shape h =
       let s = p.request.station in
-      acted b b' s p.request Heard x.1.keeps x.1.standings (place_inside b s (shape.stations s (not_free (standing b s) x.0.1.0.1))) x.0.1.0.0 _ ks
+      let here = (take_cleared f b p.request w (length t) x.0).here in
+      acted b b' s p.request Heard x.1.keeps x.1.standings (place_inside b s (shape.stations s (not_free (standing b s) here.1))) here.0 _ ks
       (reply_leaves w t t' p u) g shape.question h
   step_known {b = b} {b' = b'} {g = g} {ks = ks} (takes only {r = Err e} asked x) shape h = unmoved b _ ks (λ q a. a) g b' x.1 h
   step_known {b = b} {b' = b'} {g = g} {ks = ks} (returns {p = p} {r = Ok r} x) shape h =
       let s = p.request.station in
-      acted b b' s p.request (standing_after r) x.1.keeps x.1.standings (place_inside b s (shape.stations s (not_free (standing b s) x.0.0.1))) x.0.0.0 _ ks
+      let here = return_cleared b p.request x.0 in
+      acted b b' s p.request (standing_after r) x.1.keeps x.1.standings (place_inside b s (shape.stations s (not_free (standing b s) here.1))) here.0 _ ks
       (return_leaves p r) g shape.question h
   step_known {b = b} {b' = b'} {g = g} {ks = ks} (returns {r = Err e} x) shape h = unmoved b _ ks (λ q a. a) g b' x.1 h
   step_known {b = b} {ks = ks} (weigh_closes {b' = b'} {v = v} {t = t} {t' = t'} x) shape h =
@@ -243,7 +246,7 @@ module _ (f : Ops) (l : Laws f) (spread : Spread f) where
   step_said : {b b' : Book} {g g' : Stage} {c : Call} {ks : List Call} → Step f b g c b' g' → Known ks b g → SaidRight ks → SaidRight (c ∷ ks)
   step_said (slips only asked x) h said = said
   step_said (takes only asked x) h said = said
-  step_said {b = b} {g = g} {ks = ks} (returns {p = p} {r = Ok r} x) h said = (said_by b p.request ks r g h x.0.0 x.1.says, said)
+  step_said {b = b} {g = g} {ks = ks} (returns {p = p} {r = Ok r} x) h said = (said_by b p.request ks r g h (return_cleared b p.request x.0) x.1.says, said)
   step_said (returns {r = Err e} x) h said = said
   step_said (weigh_closes x) h said = said
   step_said (weigh_asks x) h said = said

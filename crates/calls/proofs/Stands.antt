@@ -23,6 +23,7 @@ use Rattle.calls.specs.Opening.{Opens}
 use Rattle.calls.specs.Runs.{Stage, Call, take, AsksOnly}
 use Rattle.calls.specs.Replies.{Replied, AsTold, Unfilled}
 use Rattle.calls.specs.States.{AskedAt}
+use Rattle.calls.proofs.Cleared.{open_cleared}
 use Rattle.calls.proofs.Shapes.{StageAsks}
 use Rattle.calls.proofs.RepliesIn.{reply_in}
 use Rattle.calls.proofs.Indices.{Index, other_rows, other_index, index_inside}
@@ -71,7 +72,7 @@ places_apart a b N s t i k lo lo' p q apart = elim (ℕ_discrete s t) [
 pub opened_stands : (f : Ops) (own : List ℕ) (number M N bound : ℕ) (before after : List ℕ) (b : Book) → Opens f own number M N bound before b after
     → Stands f own b.terms [] after
 opened_stands f own number M N bound before after b o = record {
-  room = subst₂ (λ M N. tally_size M N ≤ length after) (sym o.terms.1) (sym o.terms.2) (omega (arith, o.accepted.1.1.1.1.1.0, o.rows.size));
+  room = subst₂ (λ M N. tally_size M N ≤ length after) (sym o.terms.1) (sym o.terms.2) (omega (arith, (open_cleared f number M N bound (length own) (length before) o.accepted).room_for, o.rows.size));
   told = record {
     own_row = subst (λ N. (n : ℕ) → Page N n → signature_in after N 1 n ≡ entry own n) (sym o.terms.2) o.rows.signatures;
     own_sums = subst₂ (λ N bound. (j : ℕ) → Page (all_sums N bound) j → sum_in after N 1 j ≡ power_sum f N (entry own) j) (sym o.terms.2) (sym o.terms.3) o.rows.sums;
@@ -91,7 +92,7 @@ pub opened_unfilled : (f : Ops) (own : List ℕ) (number M N bound : ℕ) (befor
     → Unfilled b.terms after
 opened_unfilled f own number M N bound before after b o =
     subst₂ (λ M N. (s n : ℕ) → Within 2 M s → Page N n → signature_in after N s n ≡ 0) (sym o.terms.1) (sym o.terms.2)
-    (opened_clear f own M N (all_sums N bound) before after o.rows (omega (arith, o.accepted.1.1.1.0)))
+    (opened_clear f own M N (all_sums N bound) before after o.rows (omega (arith, (open_cleared f number M N bound (length own) (length before) o.accepted).bound_in)))
 
 -- ── a reply is taken
 module _ (f : Ops) (own : List ℕ) (t : Terms) (q : Question) (xs : List Standing) (g : Stage) (only : Option ℕ) (opens : AsksOnly g only) (asks : StageAsks t g q)

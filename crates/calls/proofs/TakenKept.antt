@@ -16,6 +16,7 @@ use Rattle.calls.specs.Questions.{PlainTerms}
 use Rattle.calls.specs.Slips.{standing, standing_after, one_back, Keeps}
 use Rattle.calls.specs.Closing.{WeighAsks}
 use Rattle.calls.specs.Runs.{Stage, first, second, closed, AsksOnly, Call, Step, Run, slips, takes, returns, weigh_closes, weigh_asks, weigh_refused, settle_closes, settle_refused, lists, opened, called}
+use Rattle.calls.proofs.Cleared.{slip_cleared, take_cleared, return_cleared}
 use Rattle.calls.proofs.AsksOne.{asks_one}
 use Rattle.calls.proofs.Shapes.{Shape}
 use Rattle.calls.proofs.ShapesKept.{shape_kept, all_done}
@@ -95,21 +96,23 @@ stays : {b b' : Book} (g : Stage) → b' ≡ b → TakenBy b g → TakenBy b' g
 stays g e h = subst (λ (b : Book). TakenBy b g) (sym e) h
 
 step_kept : (f : Ops) → Laws f → Spread f → {b b' : Book} {g g' : Stage} {c : Call} → Step f b g c b' g' → Shape f b g → TakenBy b g → TakenBy b' g'
-step_kept f laws spread (slips {b = b} {b' = b'} {g = g} only {s = s} {r = Ok slip} asked r) shape h =
-    nothing_taken b b' s Out r.1.keeps r.1.standings r.0.1.0 g (ap reply_in (free_if (standing b s) r.0.1.1.1.0 r.0.1.1.1.1.0))
+step_kept f laws spread (slips {b = b} {b' = b'} {g = g} only {s = s} {q = w} {r = Ok slip} asked r) shape h =
+    let cleared = slip_cleared b only s (length w) r.0 in
+    nothing_taken b b' s Out r.1.keeps r.1.standings cleared.station g (ap reply_in cleared.free)
     (ap (λ (c : Counts). c.taken) r.1.counts) h
 step_kept f laws spread (slips {g = g} only {r = Err e} asked r) shape h = stays g r.1 h
-step_kept f laws spread (takes {b = b} {b' = b'} {g = g} only {p = p} {w = w} {r = Ok u} asked r) shape h =
+step_kept f laws spread (takes {b = b} {b' = b'} {g = g} only {p = p} {w = w} {t = t} {r = Ok u} asked r) shape h =
     let q = p.request in
     let s = q.station in
-    let out : standing b s ≡ Out = out_if (standing b s) r.0.1.0.1 r.0.1.1.0 in
-    reply_taken b b' s Heard r.1.keeps r.1.standings (shape.stations s (not_free (standing b s) r.0.1.0.1)) f g only asked out refl
-    (ap (λ (c : Counts). c.taken) r.1.counts ∙ ap (λ n. b.counts.taken + n) (values_per_reply f b q w r.1.values r.0.1.0 r.1.reply)) shape h
+    let cleared = take_cleared f b q w (length t) r.0 in
+    reply_taken b b' s Heard r.1.keeps r.1.standings (shape.stations s (not_free (standing b s) cleared.here.1)) f g only asked cleared.asked refl
+    (ap (λ (c : Counts). c.taken) r.1.counts ∙ ap (λ n. b.counts.taken + n) (values_per_reply f b q w r.1.values cleared.here r.1.reply)) shape h
 step_kept f laws spread (takes {g = g} only {r = Err e} asked r) shape h = stays g r.1 h
 step_kept f laws spread (returns {b = b} {b' = b'} {g = g} {p = p} {r = Ok a} r) shape h =
     let s = p.request.station in
-    nothing_taken b b' s (standing_after a) r.1.keeps r.1.standings (shape.stations s (not_free (standing b s) r.0.0.1)) g
-    (reply_stays (standing b s) a r.0.0.1 r.1.says)
+    let here = return_cleared b p.request r.0 in
+    nothing_taken b b' s (standing_after a) r.1.keeps r.1.standings (shape.stations s (not_free (standing b s) here.1)) g
+    (reply_stays (standing b s) a here.1 r.1.says)
     (ap (λ (c : Counts). c.taken) r.1.counts ∙ taken_back a b.counts) h
 step_kept f laws spread (returns {g = g} {r = Err e} r) shape h = stays g r.1 h
 step_kept f laws spread (weigh_closes {b = b} x) shape h =

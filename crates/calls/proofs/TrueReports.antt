@@ -1,5 +1,5 @@
 -- Where weighing and settling did what the rules say, and strays are few or the check is plain, what was found is right.
-use Rattle.std.proofs.Common.{◌≡◌, ℕ, ◌≤◌, ◌⊎◌, List, Option, sym, ◌∙◌, refl, inl, inr, arith}
+use Rattle.std.proofs.Common.{◌≡◌, ℕ, ◌≤◌, ◌⊎◌, List, length, Some, sym, ◌∙◌, refl, inl, inr, arith}
 use Rattle.field.specs.Field.{Ops, Laws, Spread, page_limit}
 use Rattle.refusal.specs.Rules.{Within}
 use Rattle.field.specs.Sums.{power_sum}
@@ -18,6 +18,7 @@ use Rattle.calls.specs.Questions.{PlainTerms}
 use Rattle.calls.specs.Runs.{Stage, first, second, closed}
 use Rattle.calls.specs.Replies.{JudgedBy}
 use Rattle.calls.specs.Promise.{Differs, ReportRight, SplitRight, Right}
+use Rattle.calls.proofs.Cleared.{list_cleared}
 use Rattle.calls.proofs.RulesCome.{Ended, split_rows, rules_come}
 use Rattle.calls.proofs.BadPages.{bad_differs, differs_bad, listed_as}
 
@@ -44,8 +45,8 @@ module _ (f : Ops) (l : Laws f) (spread : Spread f) (t : Terms) (pages : Within 
     lists = λ s count before after h.
         listed_as t.pages (Bad t.stations (signature_in tally t.pages) s) (Differs t.stations P s)
         (λ n p bad. bad_differs t.stations P n s ((finds.report_true R x).0 n p)
-        (bad_same t.stations t.pages P (signature_in tally t.pages) (λ s n a p. sym (rows s n a p)) n p s h.0.1.1.0 bad))
-        (λ n p d. bad_same t.stations t.pages (signature_in tally t.pages) P rows n p s h.0.1.1.0 (differs_bad t.stations P n s d))
+        (bad_same t.stations t.pages P (signature_in tally t.pages) (λ s n a p. sym (rows s n a p)) n p s (list_cleared t (Some Report) s tally (length before) h.0).station bad))
+        (λ n p d. bad_same t.stations t.pages (signature_in tally t.pages) P rows n p s (list_cleared t (Some Report) s tally (length before) h.0).station (differs_bad t.stations P n s d))
         before after count h.1;
   }
     where

@@ -1,5 +1,6 @@
-use Rattle.std.proofs.Common.{refl, arith}
+use Rattle.std.proofs.Common.{length, refl, arith}
 use Rattle.std.proofs.lemmas.Result.{err_from_is_err_and}
+use Rattle.calls.proofs.Cleared.{take_cleared}
 use Rattle.calls.proofs.TakenFits.{taken_fits}
 use Rattle.calls.proofs.book.Book.take_in.Goals as goal
 
@@ -10,4 +11,7 @@ returns-in_err-values g c =
 
 pub overflow_add-self : goal.overflow_add-self
 overflow_add-self g c =
-    omega (arith, taken_fits c.args.self.now c.args.request.now c.in_ok-values.ensures.0.1.0 _ c.in_ok-values.ensures.1.count)
+    let b = c.args.self.now in
+    let q = c.args.request.now in
+    let cleared = take_cleared g.F.Field.ops b q c.args.reply.now (length c.args.tally.now) c.in_ok-values.ensures.0 in
+    omega (arith, taken_fits b q cleared.here _ c.in_ok-values.ensures.1.count)
