@@ -8,7 +8,7 @@ use crate::standing::Standing;
 use crate::terms::Terms;
 
 #[derive(Clone, Copy)]
-pub struct Book {
+pub(crate) struct Book {
     pub(crate) terms: Terms,
     // what this asking asks for
     pub(crate) question: Question,

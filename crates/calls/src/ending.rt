@@ -2,7 +2,7 @@
 use crate::phases::Verdict;
 
 #[derive(Clone, Copy)]
-pub enum Ending {
+pub(crate) enum Ending {
     // The check closes.
     Closes(Verdict),
     // This station is asked again.

@@ -6,7 +6,7 @@ use wire::Asked;
 
 // Sums or signatures, from the first index to the last.
 #[derive(Clone, Copy)]
-pub struct Question {
+pub(crate) struct Question {
     pub(crate) asked: Asked,
     pub(crate) first: u32,
     pub(crate) last: u32,

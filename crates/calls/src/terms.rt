@@ -3,7 +3,7 @@ ghost use Rattle.std.specs.Prelude.{◌-◌, ◌^◌};
 ghost use Rattle.refusal.specs.Rules.{Within};
 
 #[derive(Clone, Copy)]
-pub struct Terms {
+pub(crate) struct Terms {
     pub(crate) number: u32,
     pub(crate) stations: u32,
     pub(crate) pages: u32,
