@@ -15,7 +15,7 @@ use Rattle.calls.specs.declared.phases.Verdict.{Verdict}
 use Rattle.calls.specs.declared.phases.Verdict.TheVariants.{Report, Split, Over}
 use Rattle.calls.specs.declared.phases.Way.TheVariants.{ByWeighing, BySettling}
 use Rattle.calls.specs.Questions.{PlainTerms}
-use Rattle.calls.specs.Closing.{WeighEnds, SettleEnds, Finds}
+use Rattle.calls.specs.Closing.{WeighEnds, SettleEnds, ClosesWith}
 use Rattle.calls.specs.Runs.{Stage, first, second, closed, Call}
 use Rattle.calls.specs.Replies.{Replied, FirstAsked, SecondAsked, AskedFor}
 use Rattle.calls.proofs.Indices.{Index}
@@ -102,7 +102,7 @@ module _ (f : Ops) (own : List ℕ) (t : Terms) (ks : List Call)
   same_tally e = subst (Stands f own t ks) (sym e) stands
 
   pub finds_stands : (Ends : Outcome → Type 0) → ((o : Outcome) → Ends o → KeepsRows t (signature_in before t.pages) o) → (v : Verdict)
-      → Finds Ends t.stations t.pages before after v → Stands f own t ks after
+      → ClosesWith Ends t.stations t.pages before after v → Stands f own t ks after
   finds_stands Ends keeps Over x = same_tally x.1
   finds_stands Ends keeps (Split n) (inl x) = same_tally x.1
   finds_stands Ends keeps (Split n) (inr x) = filled_stands x.0 x.2 (keeps (filled x.0) x.1)

@@ -18,7 +18,7 @@ use Rattle.calls.specs.declared.ending.Ending.TheVariants.{Closes, Asks}
 use Rattle.calls.specs.declared.phases.Verdict.{Verdict}
 use Rattle.calls.specs.declared.phases.Verdict.TheVariants.{Report, Split, Over}
 use Rattle.calls.specs.Questions.{PlainTerms}
-use Rattle.calls.specs.Closing.{WeighEnds, SettleEnds, Finds}
+use Rattle.calls.specs.Closing.{WeighEnds, SettleEnds, ClosesWith}
 use Rattle.calls.specs.Endings.{ClosesOn, EndsIn, WeighedAs}
 use Rattle.calls.proofs.AsksOne.{asked_within, asks_one}
 
@@ -37,17 +37,17 @@ module _ (M N : ℕ) (Q R : Table) (same : Same M N Q R) where
 module _ (Says : rules.Outcome → Type 0) (M N : ℕ) (before after : List ℕ) where
   -- the check closes as is found, or the station that is asked again is the one that the rules name
   abbrev Found : Ending → Type 0
-  Found (Closes v) = Finds Says M N before after v
+  Found (Closes v) = ClosesWith Says M N before after v
   Found (Asks k) = Says (asks k) × (after ≡ before)
 
-  closes_filled : (R : Table) → Says (filled R) → Filled M N before after R → (v : Verdict) → ClosesOn M N after v → Finds Says M N before after v
+  closes_filled : (R : Table) → Says (filled R) → Filled M N before after R → (v : Verdict) → ClosesOn M N after v → ClosesWith Says M N before after v
   closes_filled R says rows Report all = (R, says, rows, reports_same M N (signature_in after N) R rows.rows all)
   closes_filled R says rows (Split n) split = inr (R, says, rows, splits_same M N (signature_in after N) R rows.rows n split)
   closes_filled R says rows Over none = absurd none
 
   ending_found : (o : Outcome) (e : Ending) → Ends M N Says before after o → EndsIn M N after o e → Found e
   ending_found outcome.Over e ends is = subst Found (sym is) ends
-  ending_found (outcome.Split n) e ends is = subst Found (sym is) (let found : Finds Says M N before after (Split n) = inl ends in found)
+  ending_found (outcome.Split n) e ends is = subst Found (sym is) (let found : ClosesWith Says M N before after (Split n) = inl ends in found)
   ending_found outcome.Filled e ends is = subst Found (sym is.1) (closes_filled ends.0 ends.1 ends.2 is.0 is.2)
   ending_found (outcome.Asks k) e ends is = subst Found (sym is) ends
 
@@ -63,7 +63,7 @@ ends_more Said Says M N before after more outcome.Filled ends = (ends.0, more (f
 ends_more Said Says M N before after more (outcome.Asks k) ends = (more (asks k) ends.0, ends.1)
 
 module _ (f : Ops) (t : Terms) (before : List ℕ) where
-  pub plain_found : PlainTerms t → (v : Verdict) → ClosesOn t.stations t.pages before v → Finds (WeighEnds f t before) t.stations t.pages before before v
+  pub plain_found : PlainTerms t → (v : Verdict) → ClosesOn t.stations t.pages before v → ClosesWith (WeighEnds f t before) t.stations t.pages before before v
   plain_found plain v closes =
       let R : Table = signature_in before t.pages in
       closes_filled (WeighEnds f t before) t.stations t.pages before before R (inl (R, refl, plain, λ s n a b. refl)) (rows_stay t.stations t.pages before) v closes
@@ -88,7 +88,7 @@ module _ (f : Ops) (t : Terms) (before : List ℕ) where
         with_station (Asks k) found = (found.0, found.1, (asks_one f laws spread t narrow before k found.0).1)
 
     pub settled_found : (o : Outcome) (v : Verdict) → Settled f t.stations t.pages t.bound before after o → EndsIn t.stations t.pages after o (Closes v)
-        → Finds (SettleEnds f t before) t.stations t.pages before after v
+        → ClosesWith (SettleEnds f t before) t.stations t.pages before after v
     settled_found o v settled is =
         ending_found (SettleEnds f t before) t.stations t.pages before after o (Closes v)
         (ends_more (Comes f t.stations t.pages t.bound before after) (SettleEnds f t before) t.stations t.pages before after comes o settled) is

@@ -16,7 +16,7 @@ use Rattle.calls.specs.declared.terms.Terms.{Terms}
 use Rattle.calls.specs.declared.phases.Verdict.{Verdict}
 use Rattle.calls.specs.declared.phases.Verdict.TheVariants.{Report, Split, Over}
 use Rattle.calls.specs.Questions.{PlainTerms}
-use Rattle.calls.specs.Closing.{WeighsBy, SettleEnds, Finds}
+use Rattle.calls.specs.Closing.{WeighsBy, SettleEnds, ClosesWith}
 use Rattle.calls.specs.Runs.{Call}
 use Rattle.calls.specs.Replies.{Replied, AsTold, FirstReplied, SecondReplied, Unfilled, AsksBy, SettlesBy, ClosedAs}
 use Rattle.calls.proofs.AsksOne.{sums_left}
@@ -28,7 +28,7 @@ alike_asks o same_station = refl
 
 -- a check that closes by some outcomes closes by others that follow from them
 pub closes_as : (t : Terms) (Ends True : Outcome → Type 0) → ((o : Outcome) → Ends o → True o) → (before after : List ℕ) → (Ends over → Unfilled t before)
-    → ((n : ℕ) → Ends (split n) → Unfilled t before) → (v : Verdict) → Finds Ends t.stations t.pages before after v → ClosedAs t after True v
+    → ((n : ℕ) → Ends (split n) → Unfilled t before) → (v : Verdict) → ClosesWith Ends t.stations t.pages before after v → ClosedAs t after True v
 closes_as t Ends True true before after none_over none_split Over x = (true over x.0, subst (Unfilled t) (sym x.1) (none_over x.0))
 closes_as t Ends True true before after none_over none_split (Split n) (inl x) = inl (true (split n) x.0, subst (Unfilled t) (sym x.1) (none_split n x.0))
 closes_as t Ends True true before after none_over none_split (Split n) (inr x) = inr (x.0, true (filled x.0) x.1, x.2.rows, x.3)

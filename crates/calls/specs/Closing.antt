@@ -60,13 +60,13 @@ module _ (M N : ℕ) (Ends : Outcome → Type 0) (Kept : Type 0) (Made : Table �
   ClosesBy Report = (R : Table) × Ends (filled R) × Made R × Reports M N R
 
 -- by what the tally holds before and after: the rows that are filled are written, and else nothing is
-abbrev pub Finds : (Outcome → Type 0) → (M N : ℕ) → (before after : List ℕ) → Verdict → Type 0
-Finds Ends M N before after = ClosesBy M N Ends (after ≡ before) (Filled M N before after)
+abbrev pub ClosesWith : (Outcome → Type 0) → (M N : ℕ) → (before after : List ℕ) → Verdict → Type 0
+ClosesWith Ends M N before after = ClosesBy M N Ends (after ≡ before) (Filled M N before after)
 
 -- the check closes with verdict v and keeps its book
 pub record WeighCloses (f : Ops) (b : Book) (before : List ℕ) (v : Verdict) (b' : Book) (after : List ℕ) : Type 0 where
   pub accepted : Accepted (closing b (length before))
-  pub finds : Finds (WeighEnds f b.terms before) b.terms.stations b.terms.pages before after v
+  pub finds : ClosesWith (WeighEnds f b.terms before) b.terms.stations b.terms.pages before after v
   pub book : b' ≡ b
 
 -- the second asking is for the sums that are left, and begins for station k afresh
@@ -85,7 +85,7 @@ pub record WeighAsks (f : Ops) (b : Book) (before : List ℕ) (k : ℕ) (b' : Bo
 
 pub record SettleCloses (f : Ops) (b : Book) (before : List ℕ) (v : Verdict) (b' : Book) (after : List ℕ) : Type 0 where
   pub accepted : Accepted (closing b (length before))
-  pub finds : Finds (SettleEnds f b.terms before) b.terms.stations b.terms.pages before after v
+  pub finds : ClosesWith (SettleEnds f b.terms before) b.terms.stations b.terms.pages before after v
   pub book : b' ≡ b
 
 -- refused: the check and the tally are what they were

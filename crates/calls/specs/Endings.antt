@@ -12,7 +12,7 @@ use Rattle.calls.specs.declared.ending.Ending.{Ending}
 use Rattle.calls.specs.declared.ending.Ending.TheVariants.{Closes, Asks}
 use Rattle.calls.specs.declared.phases.Verdict.{Verdict}
 use Rattle.calls.specs.declared.phases.Verdict.TheVariants.{Report, Split, Over}
-use Rattle.calls.specs.Closing.{WeighEnds, Finds}
+use Rattle.calls.specs.Closing.{WeighEnds, ClosesWith}
 
 -- what rows that are filled close with
 abbrev pub ClosesOn : (M N : ℕ) → (tally : List ℕ) → Verdict → Type 0
@@ -29,5 +29,5 @@ EndsIn M N tally (outcome.Asks k) e = e ≡ Asks k
 
 -- how the first asking ends
 abbrev pub WeighedAs : Ops → Terms → (before after : List ℕ) → Ending → Type 0
-WeighedAs f t before after (Closes v) = Finds (WeighEnds f t before) t.stations t.pages before after v
+WeighedAs f t before after (Closes v) = ClosesWith (WeighEnds f t before) t.stations t.pages before after v
 WeighedAs f t before after (Asks k) = WeighEnds f t before (asks k) × (after ≡ before) × Within 2 t.stations k

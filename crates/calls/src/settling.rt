@@ -4,7 +4,7 @@ ghost use Rattle.field.specs.Field.{page_limit};
 ghost use Rattle.refusal.specs.Rules.{Within};
 ghost use Rattle.tally.specs.Rows.{tally_size};
 ghost use Rattle.verdict.specs.Judging;
-ghost use Rattle.calls.specs.Closing.{SettleEnds, Finds};
+ghost use Rattle.calls.specs.Closing.{SettleEnds, ClosesWith};
 
 use crate::ending::Ending;
 use crate::phases::Verdict;
@@ -17,7 +17,7 @@ impl Terms {
     pub(crate) fn settle_rows<F: Field>(&self, tally: &mut [u32]) -> Verdict
         requires pages { Within 1 (page_limit F.Field.ops) self.now.pages }
         requires room { tally_size self.now.stations self.now.pages ≤ length tally.old }
-        ensures { Finds (SettleEnds F.Field.ops self.now tally.old) self.now.stations self.now.pages tally.old tally.new result }
+        ensures { ClosesWith (SettleEnds F.Field.ops self.now tally.old) self.now.stations self.now.pages tally.old tally.new result }
     {
         let outcome = self.settle_sums::<F>(tally);
         match self.ending_of(outcome, tally) {

@@ -19,7 +19,7 @@ use Rattle.calls.specs.Questions.{PlainTerms}
 use Rattle.calls.specs.declared.terms.Terms.{Terms}
 use Rattle.calls.specs.Opening.{Stands}
 use Rattle.calls.proofs.StandingsSet.{standing_other, standing_same, not_done}
-use Rattle.calls.specs.Closing.{closing, WeighCloses, WeighAsks, WeighEnds, SettleEnds, SettleCloses, Finds}
+use Rattle.calls.specs.Closing.{closing, WeighCloses, WeighAsks, WeighEnds, SettleEnds, SettleCloses, ClosesWith}
 use Rattle.calls.specs.Slips.{standing}
 use Rattle.calls.specs.Runs.{Stage, second, closed, weigh, settle, called, weigh_closes, weigh_asks, settle_closes}
 use Rattle.calls.specs.Steady.{copies, sums, FarmHolds}
@@ -61,7 +61,7 @@ closing_outcome f holds t tally (Split n) (inr x) = (filled x.0, x.1, λ k e. cc
 closing_outcome f holds t tally Report x = (filled x.0, x.1, λ k e. cc)
 
 -- closing keeps the tally's length
-finds_size : (Ends : Outcome → Type 0) (M N : ℕ) (before after : List ℕ) (v : Verdict) → Finds Ends M N before after v → length after ≡ length before
+finds_size : (Ends : Outcome → Type 0) (M N : ℕ) (before after : List ℕ) (v : Verdict) → ClosesWith Ends M N before after v → length after ≡ length before
 finds_size Ends M N before after Over x = ap length x.1
 finds_size Ends M N before after (Split n) (inl x) = ap length x.1
 finds_size Ends M N before after (Split n) (inr x) = x.2.size
