@@ -1,5 +1,5 @@
 -- What is known where a call is accepted: the rules of its list, by name.
-use Rattle.std.proofs.Common.{◌≡◌, ℕ, ◌-◌, ◌^◌, ◌<◌, ◌≤◌, ◌≢◌, List, length, Some, Option, arith}
+use Rattle.std.proofs.Common.{◌≡◌, ℕ, ◌-◌, ◌^◌, ◌<◌, ◌≤◌, List, length, Some, Option, arith}
 use Rattle.field.specs.Field.{Ops, page_limit}
 use Rattle.refusal.specs.Rules.{Within, Accepted}
 use Rattle.wire.specs.declared.request.Request.{Request}
@@ -10,7 +10,6 @@ use Rattle.calls.specs.declared.terms.Terms.{Terms}
 use Rattle.calls.specs.declared.book.Book.{Book}
 use Rattle.calls.specs.declared.phases.Verdict.{Verdict}
 use Rattle.calls.specs.declared.phases.Verdict.TheVariants.{Report}
-use Rattle.calls.specs.Standings.{SlipOut}
 use Rattle.calls.specs.Opening.{opening}
 use Rattle.calls.specs.Slips.{standing, Concerns, OutHere, slipping, taking, returning}
 use Rattle.calls.specs.Closing.{StillOut, closing}

@@ -1,5 +1,5 @@
 -- Where a check closes its rows stay as told: row 1 is kept, sums are not written, and signatures that were told are those that are filled.
-use Rattle.std.proofs.Common.{Some, None, ◌≡◌, ℕ, ◌≤◌, ◌⊎◌, List, sym, ◌∙◌, subst, inl, inr, arith}
+use Rattle.std.proofs.Common.{◌≡◌, ℕ, ◌≤◌, ◌⊎◌, List, sym, ◌∙◌, subst, inl, inr, arith}
 use Rattle.field.specs.Field.{Ops}
 use Rattle.algebra.specs.Vectors.{Page}
 use Rattle.refusal.specs.Rules.{Within}

@@ -1,5 +1,5 @@
 -- What was replied while an asking is on: what each station whose reply is in was asked for, and nothing of one whose reply is not.
-use Rattle.std.proofs.Common.{◌≡◌, ℕ, ◌-◌, ◌<◌, List, ◌∷◌, drop, slice_index, length, set, Some, None, Ok, Option, refl, sym, ap, ◌∙◌, subst, inl, inr, arith}
+use Rattle.std.proofs.Common.{◌≡◌, ℕ, ◌-◌, ◌<◌, List, ◌∷◌, drop, slice_index, length, set, Ok, Option, refl, sym, ap, ◌∙◌, subst, inl, inr, arith}
 use native.Mathlib.Decide.{ℕ_discrete}
 use Rattle.refusal.specs.Rules.{Within}
 use Rattle.wire.specs.Words.{value_of}

@@ -1,5 +1,5 @@
 -- At every moment of every run it is known what was replied.
-use Rattle.std.proofs.Common.{◌≡◌, ℕ, ◌-◌, ◌<◌, drop, get_or, List, ◌∷◌, length, Some, None, Ok, Err, Option, refl, sym, ap, ◌∙◌, subst, inl, inr, arith}
+use Rattle.std.proofs.Common.{◌≡◌, ℕ, ◌-◌, ◌<◌, drop, get_or, List, ◌∷◌, length, Ok, Err, Option, refl, sym, ap, ◌∙◌, subst, inl, inr, arith}
 use native.Mathlib.Decide.{ℕ_discrete}
 use Rattle.field.specs.Field.{Ops, Laws, Spread}
 use Rattle.refusal.specs.Rules.{Within}
@@ -23,7 +23,7 @@ use Rattle.calls.proofs.AsksOne.{asks_one}
 use Rattle.calls.specs.States.{AskedAt}
 use Rattle.calls.proofs.Shapes.{StageAsks, Shape}
 use Rattle.calls.proofs.ShapesKept.{shape_kept, all_done, terms_stay}
-use Rattle.calls.proofs.StandingsSet.{place_inside, standing_same, standing_start, not_free, not_done, free_if}
+use Rattle.calls.proofs.StandingsSet.{place_inside, standing_same, standing_start, not_free, not_done}
 use Rattle.calls.proofs.RepliesIn.{reply_in, reply_stays}
 use Rattle.calls.proofs.Heard.{Heard, quiet, moved_heard, taken_heard}
 

@@ -1,5 +1,5 @@
 -- The newest accepted call about a request, as one call more is made.
-use Rattle.std.proofs.Common.{◌≡◌, ℕ, ◌<◌, ◌⊎◌, ◌↔◌, List, ◌∷◌, length, set, Ok, refl, sym, ap, ◌∙◌, subst, inl, inr}
+use Rattle.std.proofs.Common.{◌≡◌, ℕ, ◌<◌, ◌↔◌, List, ◌∷◌, length, set, Ok, refl, sym, ap, ◌∙◌, inl, inr}
 use native.Mathlib.Decide.{ℕ_discrete}
 use Rattle.wire.specs.declared.request.Request.{Request}
 use Rattle.wire.specs.Requests.{Same}

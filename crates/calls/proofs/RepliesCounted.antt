@@ -1,5 +1,5 @@
 -- Accepted replies are those of the slips that came back answered and of those that are still out.
-use Rattle.std.proofs.Common.{◌≡◌, ℕ, ◌+◌, ◌<◌, List, [], ◌∷◌, length, set, Ok, Err, sym, ap, ◌∙◌, subst, arith}
+use Rattle.std.proofs.Common.{◌≡◌, ℕ, ◌+◌, ◌<◌, List, length, set, Ok, Err, sym, ap, ◌∙◌, arith}
 use Rattle.std.proofs.lemmas.List.Sums.{sum_by-set}
 use Rattle.field.specs.Field.{Ops, Laws, Spread}
 use Rattle.calls.specs.declared.standing.Standing.{Standing}
@@ -9,14 +9,14 @@ use Rattle.calls.specs.declared.slip.Returned.{Returned}
 use Rattle.calls.specs.declared.slip.Returned.TheVariants.{Answered, Blank}
 use Rattle.calls.specs.declared.book.Book.{Book}
 use Rattle.calls.specs.Standings.{SlipOut, reply_out, replies_out}
-use Rattle.calls.specs.Slips.{standing, standing_after, returned_as, one_handed, more_taken, one_back}
-use Rattle.calls.specs.Promise.{answered_by, replied_by, all_calls}
-use Rattle.calls.specs.Runs.{Stage, first, Call, Step, Run, slips, takes, returns, weigh_closes, weigh_asks, weigh_refused, settle_closes, settle_refused, lists, opened, called}
+use Rattle.calls.specs.Slips.{standing, standing_after, returned_as, one_back}
+use Rattle.calls.specs.Promise.{replied_by, all_calls}
+use Rattle.calls.specs.Runs.{Stage, Call, Step, Run, slips, takes, returns, weigh_closes, weigh_asks, weigh_refused, settle_closes, settle_refused, lists, opened, called}
 use Rattle.calls.proofs.Cleared.{slip_cleared, take_cleared, return_cleared}
 use Rattle.calls.proofs.AsksOne.{asks_one}
 use Rattle.calls.proofs.Shapes.{Shape}
 use Rattle.calls.proofs.ShapesKept.{shape_kept, all_done}
-use Rattle.calls.proofs.StandingsSet.{place_inside, not_free, free_if, out_if, heard_if}
+use Rattle.calls.proofs.StandingsSet.{place_inside, not_free, out_if, heard_if}
 
 -- replies that were returned, or are out with their slips
 abbrev kept : Book → ℕ
@@ -49,8 +49,12 @@ module _ (f : Ops) (l : Laws f) (spread : Spread f) where
   step_kept (takes {b = b} {b' = b'} only {p = p} {w = w} {t = t} {r = Ok u} asked x) shape =
       let s = p.request.station in
       let cleared = take_cleared f b p.request w (length t) x.0 in
-      omega (arith, replies_set b b' s Heard x.1.standings (place_inside b s (shape.stations s (not_free (standing b s) cleared.here.1))),
-      ap reply_out cleared.asked, ap (λ (c : Counts). c.answered) x.1.counts)
+      omega (
+        arith,
+        replies_set b b' s Heard x.1.standings (place_inside b s (shape.stations s (not_free (standing b s) cleared.here.1))),
+        ap reply_out cleared.asked,
+        ap (λ (c : Counts). c.answered) x.1.counts,
+      )
   step_kept (takes {b = b} {b' = b'} only {r = Err e} asked x) shape = omega (arith, same_kept b b' x.1)
   step_kept (returns {b = b} {b' = b'} {p = p} {r = Ok r} x) shape =
       let s = p.request.station in

@@ -1,5 +1,5 @@
 -- In every run whose calls share one tally its rows are as told, and weighing and settling did what the rules say of what accepted replies gave.
-use Rattle.std.proofs.Common.{◌≡◌, ℕ, List, [], ◌∷◌, length, Some, None, Ok, Err, Option, refl, sym, ap, ◌∙◌, subst, inl, inr}
+use Rattle.std.proofs.Common.{◌≡◌, ℕ, List, [], ◌∷◌, length, Ok, Err, Option, refl, sym, ap, ◌∙◌, subst, inl, inr}
 use Rattle.field.specs.Field.{Ops, Laws, Spread}
 use Rattle.refusal.specs.Rules.{Within}
 use Rattle.wire.specs.declared.asked.Asked.{Asked}
@@ -20,7 +20,7 @@ use Rattle.calls.proofs.Cleared.{take_cleared}
 use Rattle.calls.proofs.AsksOne.{asks_one}
 use Rattle.calls.proofs.Shapes.{StageAsks, Shape}
 use Rattle.calls.proofs.ShapesKept.{shape_kept, all_done, terms_stay}
-use Rattle.calls.proofs.StandingsSet.{not_free, not_done, out_if}
+use Rattle.calls.proofs.StandingsSet.{not_free, not_done}
 use Rattle.calls.proofs.RepliesIn.{reply_in}
 use Rattle.calls.proofs.Indices.{Index}
 use Rattle.calls.proofs.Heard.{due_index}

@@ -1,5 +1,5 @@
 -- However a check closed, it closed as the rules end that go from the first asking to the end.
-use Rattle.std.proofs.Common.{ℕ, ◌⊎◌, List, Option, Some, None, inl, inr, subst, sym}
+use Rattle.std.proofs.Common.{ℕ, ◌⊎◌, List, inl, inr, subst, sym}
 use Rattle.field.specs.Field.{Ops}
 use Rattle.scheme.specs.Farm.{Table, Same}
 use Rattle.scheme.specs.Askings.{Outcome, over, split, filled, asks}

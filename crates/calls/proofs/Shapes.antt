@@ -17,7 +17,6 @@ StageAsks t first q = FirstAsks t q
 StageAsks t (second k) q = (¬ PlainTerms t) × Within 2 t.stations k × SecondAsks t q
 StageAsks t (closed way v) q = Unit {0}
 
-
 -- every number but the stations 2 .. M stands free, and of these all that are not asked have told
 pub record Shape (f : Ops) (b : Book) (g : Stage) : Type 0 where
   pub pages : Within 1 (page_limit f) b.terms.pages

@@ -1,5 +1,5 @@
 -- A check has the shape of its stage at every moment of every run.
-use Rattle.std.proofs.Common.{◌≡◌, ℕ, List, length, set, ◌≢◌, Ok, Err, refl, sym, ap, ◌∙◌, subst, arith, Option, None, Some}
+use Rattle.std.proofs.Common.{◌≡◌, ℕ, List, length, set, ◌≢◌, Ok, Err, refl, sym, ap, ◌∙◌, subst}
 use native.Mathlib.Decide.{ℕ_discrete}
 use Rattle.field.specs.Field.{Ops, Laws, Spread, page_limit}
 use Rattle.refusal.specs.Rules.{Within, Accepted}
@@ -19,7 +19,7 @@ use Rattle.calls.specs.Runs.{Stage, closed, Call, Step, Run, slips, takes, retur
 use Rattle.calls.proofs.Cleared.{open_cleared, slip_cleared, take_cleared, return_cleared, close_cleared}
 use Rattle.calls.proofs.AsksOne.{asks_one}
 use Rattle.calls.proofs.Shapes.{StageAsks, Shape}
-use Rattle.calls.proofs.StandingsSet.{standing_other, standing_start, not_free, not_done, done_if}
+use Rattle.calls.proofs.StandingsSet.{standing_other, standing_start, not_free, not_done}
 
 -- where an asking ends every reply is in
 pub all_done : (b : Book) (room : ℕ) → Accepted (closing b room) → (s : ℕ) → Within 2 b.terms.stations s → standing b s ≡ Done

@@ -1,5 +1,5 @@
 -- At every moment of every run a check knows of its slips what was done about their requests.
-use Rattle.std.proofs.Common.{◌≡◌, ℕ, ◌<◌, ◌⊎◌, ◌↔◌, List, [], ◌∷◌, length, set, Ok, Err, refl, sym, ap, ◌∙◌, subst, inl, inr, arith}
+use Rattle.std.proofs.Common.{◌≡◌, ℕ, ◌<◌, ◌⊎◌, ◌↔◌, List, ◌∷◌, length, set, Ok, Err, refl, sym, ap, ◌∙◌, subst, inl, inr, arith}
 use native.Mathlib.Decide.{ℕ_discrete}
 use Rattle.field.specs.Field.{Ops, Laws, Spread}
 use Rattle.refusal.specs.Rules.{Within}
@@ -183,9 +183,14 @@ module _ (f : Ops) (l : Laws f) (spread : Spread f) (b b' : Book) (k : ℕ) (t t
   not_done_yet : (q : Request) → AskedAt (second k) q.station → Asks b' q.station q → (standing b' q.station ≡ Done) ↔ DoneBy (weigh t t' ∷ ks) q
   not_done_yet q at asked = (
     λ done. absurd (let free = standing_same b.standings k Free x.again.standings (place_inside b k asked_one.1) in
-    let e = ap (standing b') at in cc),
-    λ n. absurd (omega (arith, h.early q (newest_same (IsReturn Answered) (return_about Answered) (weigh t t') ks q (λ a. a) n), asked.3, x.again.question.1,
-    first_sums_between b.terms.stations b.terms.bound b.terms.bound_in.0)),
+        let e = ap (standing b') at in cc),
+    λ n. absurd (omega (
+      arith,
+      h.early q (newest_same (IsReturn Answered) (return_about Answered) (weigh t t') ks q (λ a. a) n),
+      asked.3,
+      x.again.question.1,
+      first_sums_between b.terms.stations b.terms.bound b.terms.bound_in.0,
+    )),
   )
 
   begun : Known (weigh t t' ∷ ks) b' (second k)
@@ -262,15 +267,15 @@ module _ (f : Ops) (l : Laws f) (spread : Spread f) where
   pub slips_known : (own tally : List ℕ) (ks : List Call) (b : Book) (g : Stage) → Run f own tally ks b g → SlipsKnown ks b g
   slips_known own tally ks b g run = record {
     out = λ q. (
-        λ o. elim o.1 [ inl e ↦ inl ((h.asked q o.0).0 e) | inr e ↦ inr ((h.heard q o.0).0 e) ],
-        λ n. (h.here q n, elim n [ inl n ↦ inl ((h.asked q (h.here q (inl n))).1 n) | inr n ↦ inr ((h.heard q (h.here q (inr n))).1 n) ]),
-      );
+      λ o. elim o.1 [ inl e ↦ inl ((h.asked q o.0).0 e) | inr e ↦ inr ((h.heard q o.0).0 e) ],
+      λ n. (h.here q n, elim n [ inl n ↦ inl ((h.asked q (h.here q (inl n))).1 n) | inr n ↦ inr ((h.heard q (h.here q (inr n))).1 n) ]),
+    );
     heard = λ q. (
-        λ o. (h.heard q o.0.0).0 o.1,
-        λ n. let a = h.here q (inr n) in
-        let e = (h.heard q a).1 n in
-        ((a, inr e), e),
-      );
+      λ o. (h.heard q o.0.0).0 o.1,
+      λ n. let a = h.here q (inr n) in
+          let e = (h.heard q a).1 n in
+          ((a, inr e), e),
+    );
     done = h.done;
     said = run_said own tally ks b g run;
   }

@@ -20,7 +20,7 @@ use Rattle.calls.proofs.Cleared.{slip_cleared, take_cleared, return_cleared}
 use Rattle.calls.proofs.AsksOne.{asks_one}
 use Rattle.calls.proofs.Shapes.{Shape}
 use Rattle.calls.proofs.ShapesKept.{shape_kept, all_done}
-use Rattle.calls.proofs.StandingsSet.{place_inside, standing_other, standing_same, standing_start, not_free, free_if, out_if}
+use Rattle.calls.proofs.StandingsSet.{place_inside, standing_other, standing_same, standing_start, not_free}
 use Rattle.calls.proofs.RepliesIn.{reply_in, reply_stays, replies_in, replies_moved, no_replies_in, all_replies_in}
 use Rattle.calls.proofs.ValuesPerReply.{per_reply, values_per_reply}
 use Rattle.calls.proofs.TakenByStage.{most_of, all_first, TakenBy, sums_due, taken_few}

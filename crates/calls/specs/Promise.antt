@@ -1,5 +1,5 @@
 -- The promise: what holds at every moment of every run of calls on a check.
-use Rattle.std.specs.Prelude.{◌≡◌, ℕ, ◌+◌, ◌-◌, ◌*◌, ◌≤◌, min, cond, ◌≢◌, ◌⊎◌, List, [], ◌∷◌, length, Some, Ok, Option, ◌==◌}
+use Rattle.std.specs.Prelude.{◌≡◌, ℕ, ◌+◌, ◌-◌, ◌*◌, ◌≤◌, min, cond, ◌≢◌, ◌⊎◌, List, [], ◌∷◌, length, Some, Ok, ◌==◌}
 use Rattle.field.specs.Field.{Ops, Laws, Spread}
 use Rattle.field.specs.Sums.{entry, power_sum}
 use Rattle.algebra.specs.Vectors.{Page, Codes}

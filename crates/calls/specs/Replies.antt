@@ -1,5 +1,5 @@
 -- What accepted replies gave, and what they make of the tally and of the verdict, whatever the stations hold.
-use Rattle.std.specs.Prelude.{◌≡◌, ℕ, ◌+◌, ◌-◌, ◌<◌, ◌⊎◌, List, [], ◌∷◌, drop, Some, None, Ok, Option, slice_index}
+use Rattle.std.specs.Prelude.{◌≡◌, ℕ, ◌+◌, ◌-◌, ◌<◌, ◌⊎◌, List, [], ◌∷◌, drop, Ok, slice_index}
 use Rattle.field.specs.Field.{Ops, Laws, Spread}
 use Rattle.field.specs.Sums.{entry, power_sum}
 use Rattle.algebra.specs.Vectors.{Page}
