@@ -95,12 +95,33 @@ SuspectByAnswers =
     ↔ ((none s t ≡ true)
     ⊎ ((none s t ≡ false) × ((u v : ℕ) → Pair M u v → Disjoint s t u v → (none u v ≡ false) × (weight N (D u v) < weight N (D s t)))))
 
--- four rows of three pages, all 0 but for one copy
-abbrev pub sample : Table
-sample s n = cond (eqb s 4 && eqb n 2) 1 0
+-- rows of pages that are all 0, but for page 2 of row k
+abbrev pub one_other : ℕ → Table
+one_other k s n = cond (eqb s k && eqb n 2) 1 0
 
--- Such a table as Right speaks of is there, in every field: its copies are codes, one is stray, and the farm is not plain.
+-- rows that differ from each other on every page
+abbrev pub all_other : Table
+all_other s n = s
+
+-- What Right asks of a table P, where all that is told are its own sums and its own row 1.
+pub record Suits (f : Ops) (M N bound : ℕ) (P : Table) : Type 0 where
+  pub stations : 3 ≤ M
+  pub pages : N ≤ f.places
+  pub codes : (s : ℕ) → Station M s → Codes f N (P s)
+  pub told : Told f M N bound P (λ s. power_sum f N (P s)) (λ s. power_sum f N (P s)) (P 1)
+
+-- Such tables as Right speaks of are there, in every field that has places for their pages: of four stations and of three, with as many stray copies as the
+-- bound, where the farm is not plain; and of a plain farm, with more.
+pub record Samples (f : Ops) : Type 0 where
+  pub four : Suits f 4 3 1 (one_other 4)
+  pub four_stray : strays 4 (one_other 4) 3 ≡ 1
+  pub four_not_plain : ¬ Plain 4 3 1
+  pub three : Suits f 3 3 1 (one_other 3)
+  pub three_stray : strays 3 (one_other 3) 3 ≡ 1
+  pub three_not_plain : ¬ Plain 3 3 1
+  pub plain : Suits f 4 3 3 all_other
+  pub plain_stray : strays 4 all_other 3 ≡ 9
+  pub is_plain : Plain 4 3 3
+
 abbrev pub Sample : Type 0
-Sample =
-    (f : Ops) → Laws f → ((s : ℕ) → Station 4 s → Codes f 3 (sample s)) × (strays 4 sample 3 ≡ 1) × (¬ Plain 4 3 1)
-    × Told f 4 3 1 sample (λ s. power_sum f 3 (sample s)) (λ s. power_sum f 3 (sample s)) (sample 1)
+Sample = (f : Ops) → Laws f → 3 ≤ f.places → Samples f

@@ -45,7 +45,7 @@ pub fn suspect_by_answers()
     ensures { SuspectByAnswers }
 {}
 
-// A table that the first theorem speaks of is there, in every field.
+// Tables that the first theorem speaks of are there, in every field that has places for three pages: of four stations, of three, and of a plain farm.
 pub fn sample()
     ensures { Sample }
 {}
