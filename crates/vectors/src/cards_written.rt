@@ -1,60 +1,21 @@
-// What is written for jobs of so many bytes 1: the card or the refusal.
+// `FIELD card LENGTH COUNT = TEXT`: what is written for a job of so many bytes 1, cut into pages of this length; each line ends with `|`.
+use anyhow::{Result, bail};
 use fields::FieldName;
+use std::alloc::Global;
 
-pub struct Case {
-    pub field: FieldName,
-    pub length: usize,
-    pub bytes: usize,
-    pub text: &'static [u8],
+pub fn answer(heap: Global, field: FieldName, words: &[&str]) -> Result<String> {
+    let [length, count] = words else {
+        bail!("a page length and a count of bytes are due");
+    };
+    let job = vec![in heap; 1u8; count.parse::<usize>()?]?;
+    let card = cards::card_in(heap, field, length.parse::<usize>()?, job.as_slice())?;
+    let mut text = String::new(heap);
+    for byte in card.as_slice() {
+        text.push(if *byte == b'\n' {
+            '|'
+        } else {
+            char::from(*byte)
+        })?;
+    }
+    Ok(text)
 }
-
-pub static CASES: [Case; 8] = [
-    Case {
-        field: FieldName::Small,
-        length: 3,
-        bytes: 4,
-        text: b"1 7\n2 4\npages 2\n",
-    },
-    Case {
-        field: FieldName::Prime,
-        length: 3,
-        bytes: 4,
-        text: b"1 13\n2 9\npages 2\n",
-    },
-    Case {
-        field: FieldName::Wide,
-        length: 4096,
-        bytes: 0,
-        text: b"refused 1 3\n",
-    },
-    Case {
-        field: FieldName::Small,
-        length: 0,
-        bytes: 4,
-        text: b"refused 1 7\n",
-    },
-    Case {
-        field: FieldName::Small,
-        length: 4097,
-        bytes: 0,
-        text: b"refused 1 7\n",
-    },
-    Case {
-        field: FieldName::Small,
-        length: 1,
-        bytes: 256,
-        text: b"refused 1 3\n",
-    },
-    Case {
-        field: FieldName::Wide,
-        length: 1,
-        bytes: 1921,
-        text: b"refused 1 3\n",
-    },
-    Case {
-        field: FieldName::Prime,
-        length: 1,
-        bytes: 1921,
-        text: b"refused 1 3\n",
-    },
-];

@@ -1,17 +1,30 @@
-// The powers of 2 in the field of 256 elements modulo 285, 2^0 to 2^254, as the literature on Reed-Solomon codes prints them.
+// `FIELD powers HOW COUNT = POWER ..`: the powers of alpha from the power 0 on.
+use crate::lists::number_text;
+use anyhow::{Result, bail};
+use field::Field;
+use std::alloc::{AllocError, Global};
 
-pub const PUBLISHED: [u32; 255] = [
-    1, 2, 4, 8, 16, 32, 64, 128, 29, 58, 116, 232, 205, 135, 19, 38, 76, 152, 45, 90, 180, 117,
-    234, 201, 143, 3, 6, 12, 24, 48, 96, 192, 157, 39, 78, 156, 37, 74, 148, 53, 106, 212, 181,
-    119, 238, 193, 159, 35, 70, 140, 5, 10, 20, 40, 80, 160, 93, 186, 105, 210, 185, 111, 222, 161,
-    95, 190, 97, 194, 153, 47, 94, 188, 101, 202, 137, 15, 30, 60, 120, 240, 253, 231, 211, 187,
-    107, 214, 177, 127, 254, 225, 223, 163, 91, 182, 113, 226, 217, 175, 67, 134, 17, 34, 68, 136,
-    13, 26, 52, 104, 208, 189, 103, 206, 129, 31, 62, 124, 248, 237, 199, 147, 59, 118, 236, 197,
-    151, 51, 102, 204, 133, 23, 46, 92, 184, 109, 218, 169, 79, 158, 33, 66, 132, 21, 42, 84, 168,
-    77, 154, 41, 82, 164, 85, 170, 73, 146, 57, 114, 228, 213, 183, 115, 230, 209, 191, 99, 198,
-    145, 63, 126, 252, 229, 215, 179, 123, 246, 241, 255, 227, 219, 171, 75, 150, 49, 98, 196, 149,
-    55, 110, 220, 165, 87, 174, 65, 130, 25, 50, 100, 200, 141, 7, 14, 28, 56, 112, 224, 221, 167,
-    83, 166, 81, 162, 89, 178, 121, 242, 249, 239, 195, 155, 43, 86, 172, 69, 138, 9, 18, 36, 72,
-    144, 61, 122, 244, 245, 247, 243, 251, 235, 203, 139, 11, 22, 44, 88, 176, 125, 250, 233, 207,
-    131, 27, 54, 108, 216, 173, 71, 142,
-];
+pub fn answer<F: Field>(heap: Global, words: &[&str]) -> Result<String> {
+    let [how, count] = words else {
+        bail!("a way and a count are due");
+    };
+    let count = count.parse::<usize>()?;
+    let powers = match *how {
+        "called" => (0..count).map(|n| F::alpha_pow(n)).collect(heap)?,
+        "squared" => (0..count).map(|n| F::pow(F::ALPHA, n)).collect(heap)?,
+        "stepped" => stepped::<F>(heap, count)?,
+        _ => bail!("powers are called, squared or stepped"),
+    };
+    Ok(number_text(heap, powers.as_slice())?)
+}
+
+/// Each power from the one before.
+fn stepped<F: Field>(heap: Global, count: usize) -> Result<Vec<u32>, AllocError> {
+    let mut powers = Vec::new(heap);
+    let mut power = 1;
+    for _n in 0..count {
+        powers.push(power)?;
+        power = F::alpha_add(power, 0);
+    }
+    Ok(powers)
+}

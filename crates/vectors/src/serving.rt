@@ -1,91 +1,38 @@
-// Requests to station 4, a card with the signatures 3, 0, 5 in the field prime, and what is served.
+// `FIELD serve KIND ROOM WORD .. = COUNT: WORD ..`, or `refused NUMBER PLACE: WORD ..`: what station 4, a card or a shelf with the signatures 3, 0 and 5, makes of a request.
+// The reply buffer has so many words, all of them 7; what it then holds is written whole, behind the count of the reply's words.
+use crate::lists::{link_words, with_link_words};
+use anyhow::{Result, bail};
+use field::Field;
+use refusal::Refusal;
+use station::{Card, Shelf, Station, serve};
+use std::alloc::Global;
 
-pub struct Case {
-    pub request: &'static [u32],
-    pub room: usize,
-    // the values after the request's own words; or the refusal's number and place
-    pub served: Result<&'static [u32], (u32, usize)>,
+pub fn answer<F: Field>(heap: Global, words: &[&str]) -> Result<String> {
+    let [kind, room, request @ ..] = words else {
+        bail!("a kind of station and a count of words are due");
+    };
+    let request = link_words(heap, request)?;
+    let mut reply = vec![in heap; 7u32; room.parse::<usize>()?]?;
+    let served = match *kind {
+        "card" => serve_card::<F>(request.as_slice(), reply.as_mut_slice()),
+        "shelf" => serve_shelf::<F>(request.as_slice(), reply.as_mut_slice()),
+        _ => bail!("a station is a card or a shelf"),
+    };
+    let head = match served {
+        Ok(count) => format!(in heap; "{count}:")?,
+        Err(refusal) => format!(in heap; "{refusal}:")?,
+    };
+    Ok(with_link_words(head, reply.as_slice())?)
 }
 
-pub static CASES: [Case; 15] = [
-    // sum 2; sums 1 to 2 for check 0; all signatures
-    Case {
-        request: &[0x10000005, 0x20000004, 0x30000002, 0x50000002],
-        room: 5,
-        served: Ok(&[0x60000E58]),
-    },
-    Case {
-        request: &[0x10000000, 0x20000004, 0x30000001, 0x50000002],
-        room: 9,
-        served: Ok(&[0x60000090, 0x60000E58]),
-    },
-    Case {
-        request: &[0x10000005, 0x20000004, 0x40000001, 0x50000003],
-        room: 7,
-        served: Ok(&[0x60000003, 0x60000000, 0x60000005]),
-    },
-    // garbled: missing, surplus, a wrong kind, the lowest of two
-    Case {
-        request: &[],
-        room: 9,
-        served: Err((8, 1)),
-    },
-    Case {
-        request: &[0x10000005, 0x20000004, 0x30000002],
-        room: 9,
-        served: Err((8, 4)),
-    },
-    Case {
-        request: &[0x10000005, 0x20000004, 0x30000002, 0x50000002, 0x60000000],
-        room: 9,
-        served: Err((8, 5)),
-    },
-    Case {
-        request: &[0x10000005, 0x20000004, 0x50000002, 0x50000002],
-        room: 9,
-        served: Err((8, 3)),
-    },
-    Case {
-        request: &[0x20000005, 0x20000007],
-        room: 0,
-        served: Err((8, 1)),
-    },
-    // another station, even with an index outside
-    Case {
-        request: &[0x10000005, 0x20000005, 0x30000000, 0x50000002],
-        room: 0,
-        served: Err((9, 2)),
-    },
-    // outside: sum 0, sum 129, page 4, first above last
-    Case {
-        request: &[0x10000005, 0x20000004, 0x30000000, 0x50000002],
-        room: 0,
-        served: Err((11, 0)),
-    },
-    Case {
-        request: &[0x10000005, 0x20000004, 0x30000001, 0x50000081],
-        room: 0,
-        served: Err((11, 0)),
-    },
-    Case {
-        request: &[0x10000005, 0x20000004, 0x40000002, 0x50000004],
-        room: 0,
-        served: Err((11, 0)),
-    },
-    Case {
-        request: &[0x10000005, 0x20000004, 0x30000003, 0x50000002],
-        room: 0,
-        served: Err((11, 0)),
-    },
-    // a buffer too short by one
-    Case {
-        request: &[0x10000005, 0x20000004, 0x30000002, 0x50000002],
-        room: 4,
-        served: Err((2, 2)),
-    },
-    Case {
-        request: &[0x10000005, 0x20000004, 0x40000001, 0x50000003],
-        room: 6,
-        served: Err((2, 2)),
-    },
-];
+/// Words of a card count modulo the field's size.
+fn serve_card<F: Field>(request: &[u32], reply: &mut [u32]) -> Result<usize, Refusal> {
+    let words = [3, F::SIZE, F::SIZE.saturating_add(5)];
+    let card: Card<F> = Card::new(&words)?;
+    serve(&card, 4, request, reply)
+}
+
+fn serve_shelf<F: Field>(request: &[u32], reply: &mut [u32]) -> Result<usize, Refusal> {
+    let shelf: Shelf<F> = Shelf::new(&[3, 0, 5], 1)?;
+    serve(&shelf, 4, request, reply)
+}
