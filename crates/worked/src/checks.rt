@@ -14,7 +14,7 @@ const STATIONS: usize = 4;
 
 const PAGES: usize = 3;
 
-pub fn worked_checks()
+pub(crate) fn worked_checks()
     ensures { WorkedChecks }
 {
     check_four(1, &[3, 0, 5, 3, 0, 5, 3, 0, 5, 3, 7, 5]);

@@ -1,12 +1,21 @@
-// Small examples that anybody can work out by hand, as theorems: what the definitions give, and what two checks come to.
+// Small examples that anybody can work out by hand, as one theorem: what the definitions give, and what two checks come to.
 #![tactic(auto)]
 
 ghost use Rattle.worked.specs.Examples.{WorkedExamples};
+ghost use Rattle.worked.specs.Worked.{Worked};
 
 mod checks;
 
-pub use checks::worked_checks;
+/// All of them: the definitions on small inputs, a farm that is over at weighing, and two checks through their calls, with the second reply's words and the count of
+/// sums taken.
+pub fn worked()
+    ensures { Worked }
+{
+    worked_examples();
+    checks::worked_checks();
+}
 
-pub fn worked_examples()
+// What the definitions give.
+fn worked_examples()
     ensures { WorkedExamples }
 {}
