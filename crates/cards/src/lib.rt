@@ -6,4 +6,4 @@ mod line;
 mod text;
 
 pub use choice::card_in;
-pub use text::card_text;
+pub use text::{CARD_ROOM, card_text};

@@ -1,24 +1,24 @@
 // The lines of a card.
-ghost use Rattle.std.specs.Prelude.{◌≡◌, IfOk, string_bytes};
-ghost use Rattle.cards.specs.Card.{page_line, last_line, refusal_line};
+ghost use Rattle.std.specs.Prelude.{◌≡◌, ◌+◌, ◌++◌, ◌≤◌, length};
+ghost use Rattle.cards.specs.Card.{page_line, last_line};
 
-use refusal::Refusal;
-use std::alloc::{AllocError, Global};
+use lines::Text;
 
-pub fn for_page(heap: Global, page: usize, signature: u32) -> Result<String, AllocError>
-    ensures { IfOk result (λ text. string_bytes text ≡ page_line page signature) }
+pub(crate) fn put_page<const N: usize>(text: &mut Text<N>, page: usize, signature: u32)
+    requires { length text.old + length (page_line page signature) ≤ N }
+    ensures { text.new ≡ text.old ++ page_line page signature }
 {
-    format!(in heap; "{page} {signature}\n")
+    text.put_number(page as u64);
+    text.put(b" ");
+    text.put_number(u64::from(signature));
+    text.put(b"\n");
 }
 
-pub fn for_count(heap: Global, pages: usize) -> Result<String, AllocError>
-    ensures { IfOk result (λ text. string_bytes text ≡ last_line pages) }
+pub(crate) fn put_count<const N: usize>(text: &mut Text<N>, pages: usize)
+    requires { length text.old + length (last_line pages) ≤ N }
+    ensures { text.new ≡ text.old ++ last_line pages }
 {
-    format!(in heap; "pages {pages}\n")
-}
-
-pub fn for_refusal(heap: Global, refusal: Refusal) -> Result<String, AllocError>
-    ensures { IfOk result (λ text. string_bytes text ≡ refusal_line refusal) }
-{
-    format!(in heap; "{refusal}\n")
+    text.put(b"pages ");
+    text.put_number(pages as u64);
+    text.put(b"\n");
 }
