@@ -5,6 +5,8 @@ pub mod CardsHeld
 pub mod Exchanged
 pub mod LinesFound
 pub mod LinesWritten
+pub mod ListsCalled
 pub mod ListsShort
+pub mod ReadRefused
 pub mod Readied
 pub mod Rounds

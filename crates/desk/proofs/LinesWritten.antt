@@ -1,13 +1,15 @@
--- Lines that are written one after another, for the pages of a station and for the stations.
-use Rattle.std.proofs.Common.{◌≡◌, ℕ, zero, suc, ◌+◌, ◌-◌, ◌<◌, ◌≤◌, ◌≢◌, List, [], ◌∷◌, ◌++◌, length, take, drop, get_or, cond, refl, sym, ap, ap₂, subst, ◌∙◌, append-nil, arith}
-use lib.Dec.{eqb}
-use borrow.Author.Tests.{eq-eqb, ne_eqb}
-use native.Mathlib.Decide.{ℕ_discrete}
+-- Lines that are written one after another, for the pages of a station and for the stations, and how long they are at most.
+use Rattle.std.proofs.Common.{◌≡◌, ℕ, suc, ◌+◌, ◌-◌, ◌^◌, ◌<◌, ◌≤◌, List, [], ◌∷◌, ◌++◌, length, take, drop, get_or, decimal, Some, Ok, lit<, sym, ap, subst, ◌∙◌, append-nil, length-append, arith}
 use Rattle.std.proofs.Math.Seq.{take-suc, take-append_seam}
+use Rattle.std.proofs.lemmas.Fmt.{length-decimal-le}
 use Rattle.std.proofs.lemmas.Grind.{flat_map-append}
-use Rattle.scheme.specs.Farm.{Station}
 use Rattle.tally.specs.Listing.{Lists, Listed}
-use Rattle.desk.specs.Findings.{copy_line, copy_lines, station_lines, LinesOf}
+use Rattle.calls.specs.declared.terms.Terms.{Terms}
+use Rattle.calls.specs.declared.phases.Verdict.TheVariants.{Report}
+use Rattle.calls.specs.Listing.{Listing}
+use Rattle.calls.specs.Runs.{Call, list}
+use Rattle.desk.specs.Lines.{copy_line, copy_lines, split_line, sums_line}
+use Rattle.desk.specs.Listings.{Listings, one_listed}
 
 -- the line of one more page
 pub copy_lines_more : (s : ℕ) (pages : List ℕ) (i : ℕ) → i < length pages
@@ -17,40 +19,35 @@ copy_lines_more s pages i inside =
     ∙ flat_map-append (copy_line s) (take i pages) (get_or pages i 0 ∷ [])
     ∙ ap (λ line. copy_lines s (take i pages) ++ line) (append-nil (copy_line s (get_or pages i 0))))
 
-same_lines : (p q : ℕ → List ℕ) (k : ℕ) → ((s : ℕ) → Station k s → p s ≡ q s) → station_lines p k ≡ station_lines q k
-same_lines p q zero same = refl
-same_lines p q (suc k) same = ap₂ ◌++◌ (same_lines p q k (λ s at. same s (omega arith))) (ap (copy_lines (suc k)) (same (suc k) (omega arith)))
+pub copy_line_short : (s n : ℕ) → s ≤ 8 → n ≤ 255 → length (copy_line s n) ≤ 6
+copy_line_short s n station page =
+    let one : length (decimal s) ≤ 1 = length-decimal-le 1 s (lit< tt) (omega arith) (omega arith) in
+    let three : length (decimal n) ≤ 3 = length-decimal-le 3 n (lit< tt) (omega arith) (omega arith) in
+    simp length-append (omega arith)
 
-module _ (N : ℕ) (Q : ℕ → ℕ → Type 0) where
-  -- the lines of one more station
-  lines_more : (k : ℕ) (text xs : List ℕ) → LinesOf k N Q text → Lists N (Q (suc k)) xs → LinesOf (suc k) N Q (text ++ copy_lines (suc k) xs)
-  lines_more k text xs (pages, lists, is) more = (
-    now,
-    λ s at. elim (ℕ_discrete s (suc k)) [
-      | yes last ↦ subst (λ s. Lists N (Q s) (now s)) (sym last) (subst (Lists N (Q (suc k))) (sym here) more)
-      | no other ↦ subst (Lists N (Q s)) (sym (before s other)) (lists s (omega arith))
-    ],
-    ap₂ (λ one two. one ++ copy_lines (suc k) two) (is ∙ same_lines pages now k (λ s at. sym (before s (omega arith)))) (sym here),
-  )
-    where
-      now : ℕ → List ℕ
-      now s = cond (eqb s (suc k)) xs (pages s)
+pub split_line_short : (n : ℕ) → n < 2 ^ 64 → length (split_line n) ≤ 27
+split_line_short n fits =
+    let digits : length (decimal n) ≤ 20 = length-decimal-le 20 n (lit< tt) (omega arith) fits in
+    simp length-append (omega arith)
 
-      here : now (suc k) ≡ xs
-      here = ap (λ t. cond t xs (pages (suc k))) (eq-eqb (suc k) (suc k) refl)
-
-      before : (s : ℕ) → s ≢ suc k → now s ≡ pages s
-      before s other = ap (λ t. cond t xs (pages s)) (ne_eqb s (suc k) other)
+pub sums_line_short : (count : ℕ) → count < 2 ^ 64 → length (sums_line count) ≤ 26
+sums_line_short count fits =
+    let digits : length (decimal count) ≤ 20 = length-decimal-le 20 count (lit< tt) (omega arith) fits in
+    simp length-append (omega arith)
 
 -- what a listing writes first
-listed_first : (N : ℕ) (Q : ℕ → Type 0) (before after : List ℕ) (count : ℕ) → Listed N Q before after count → Lists N Q (take count after)
+pub listed_first : (N : ℕ) (Q : ℕ → Type 0) (before after : List ℕ) (count : ℕ) → Listed N Q before after count → Lists N Q (take count after)
 listed_first N Q before after count x =
     subst (Lists N Q) (sym (ap (take count) x.written ∙ subst (λ n. take n (x.listed ++ drop count before) ≡ x.listed) x.size (take-append_seam x.listed (drop count before)))) x.lists
 
 -- one station's listing, written behind those of the stations before it
-pub lines_turn : (N : ℕ) (Q : ℕ → ℕ → Type 0) (s k : ℕ) → 1 ≤ s → s ≡ k → (text room pages : List ℕ) (count : ℕ) → LinesOf (s - 1) N Q text
-    → Listed N (Q s) room pages count → (out : List ℕ) → out ≡ text ++ copy_lines s (take count pages) → LinesOf k N Q out
-lines_turn N Q s k some same text room pages count lines listed out is =
-    let one : suc (s - 1) ≡ s = omega arith in
-    subst (λ k. LinesOf k N Q out) (one ∙ same) (subst (LinesOf (suc (s - 1)) N Q) (sym (is ∙ ap (λ s. text ++ copy_lines s (take count pages)) (sym one)))
-    (lines_more N Q (s - 1) text (take count pages) lines (listed_first N (Q (suc (s - 1))) room pages count (subst (λ s. Listed N (Q s) room pages count) (sym one) listed))))
+pub listings_turn : (t : Terms) (tally : List ℕ) (s k : ℕ) → 1 ≤ s → s ≡ k → (calls : List Call) (text room out : List ℕ) (count : ℕ)
+    → Listings t tally (s - 1) calls text → Listing t (Some Report) s tally room (Ok count) out → (after : List ℕ) → after ≡ text ++ copy_lines s (take count out)
+    → (more : List Call) × Listings t tally k more after
+listings_turn t tally s k some same calls text room out count before listing after is =
+    let one : suc (s - 1) ≡ s = omega arith in (
+      list (suc (s - 1)) tally room (Ok count) out ∷ calls,
+      subst (λ k. Listings t tally k (list (suc (s - 1)) tally room (Ok count) out ∷ calls) after) (one ∙ same)
+          (subst (Listings t tally (suc (s - 1)) (list (suc (s - 1)) tally room (Ok count) out ∷ calls)) (sym (is ∙ ap (λ s. text ++ copy_lines s (take count out)) (sym one)))
+          (one_listed before (subst (λ s. Listing t (Some Report) s tally room (Ok count) out) (sym one) listing))),
+    )

@@ -1,37 +1,43 @@
 // The lines that a desk writes.
-ghost use Rattle.std.specs.Prelude.{◌≡◌, IfOk, string_bytes};
-ghost use Rattle.desk.specs.Findings.{copy_line, split_line, over_line, sums_line, refusal_line};
+ghost use Rattle.std.specs.Prelude.{◌≡◌, ◌+◌, ◌++◌, ◌≤◌, length};
+ghost use Rattle.desk.specs.Lines.{copy_line, split_line, over_line, sums_line};
 
-use refusal::Refusal;
-use std::alloc::{AllocError, Global};
+use crate::room::FINDINGS_ROOM;
+use lines::Text;
 
 // A bad copy.
-pub(crate) fn for_copy(heap: Global, station: u32, page: u32) -> Result<String, AllocError>
-    ensures { IfOk result (λ text. string_bytes text ≡ copy_line station page) }
+pub(crate) fn put_copy(text: &mut Text<FINDINGS_ROOM>, station: u32, page: u32)
+    requires { length text.old + length (copy_line station page) ≤ FINDINGS_ROOM }
+    ensures { text.new ≡ text.old ++ copy_line station page }
 {
-    format!(in heap; "{station} {page}\n")
+    text.put_number(u64::from(station));
+    text.put(b" ");
+    text.put_number(u64::from(page));
+    text.put(b"\n");
 }
 
-pub(crate) fn for_split(heap: Global, page: usize) -> Result<String, AllocError>
-    ensures { IfOk result (λ text. string_bytes text ≡ split_line page) }
+pub(crate) fn put_split(text: &mut Text<FINDINGS_ROOM>, page: usize)
+    requires { length text.old + 27 ≤ FINDINGS_ROOM }
+    ensures line { text.new ≡ text.old ++ split_line page }
+    ensures short { length text.new ≤ length text.old + 27 }
 {
-    format!(in heap; "split {page}\n")
+    text.put(b"split ");
+    text.put_number(page as u64);
+    text.put(b"\n");
 }
 
-pub(crate) fn for_over(heap: Global) -> Result<String, AllocError>
-    ensures { IfOk result (λ text. string_bytes text ≡ over_line) }
+pub(crate) fn put_over(text: &mut Text<FINDINGS_ROOM>)
+    requires { length text.old + length over_line ≤ FINDINGS_ROOM }
+    ensures { text.new ≡ text.old ++ over_line }
 {
-    format!(in heap; "over\n")
+    text.put(b"over\n");
 }
 
-pub(crate) fn for_sums(heap: Global, count: u64) -> Result<String, AllocError>
-    ensures { IfOk result (λ text. string_bytes text ≡ sums_line count) }
+pub(crate) fn put_sums(text: &mut Text<FINDINGS_ROOM>, count: u64)
+    requires { length text.old + 26 ≤ FINDINGS_ROOM }
+    ensures { text.new ≡ text.old ++ sums_line count }
 {
-    format!(in heap; "sums {count}\n")
-}
-
-pub(crate) fn for_refusal(heap: Global, refusal: Refusal) -> Result<String, AllocError>
-    ensures { IfOk result (λ text. string_bytes text ≡ refusal_line refusal) }
-{
-    format!(in heap; "{refusal}\n")
+    text.put(b"sums ");
+    text.put_number(count);
+    text.put(b"\n");
 }

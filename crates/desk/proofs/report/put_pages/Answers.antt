@@ -1,18 +1,22 @@
-use Rattle.std.proofs.Common.{◌≡◌, ◌++◌, length, take, ap, ap₂, ◌∙◌, arith}
-use Rattle.std.proofs.Math.Seq.{take-length}
-use Rattle.desk.specs.Findings.{copy_lines}
-use Rattle.desk.proofs.LinesWritten.{copy_lines_more}
-use Rattle.desk.proofs.report.page_lines.Goals as goal
+use Rattle.std.proofs.Common.{◌++◌, length, take, get_or, ap, ◌∙◌, append_assoc, length-append, arith}
+use Rattle.desk.specs.Lines.{copy_line, copy_lines}
+use Rattle.desk.proofs.LinesWritten.{copy_line_short, copy_lines_more}
+use Rattle.desk.proofs.report.put_pages.Goals as goal
 
-pub loop-page-init : goal.loop-page-init
-loop-page-init c = c.new-out.ensures.items
+pub put_copy-requires : goal.put_copy-requires
+put_copy-requires c =
+    let page = get_or c.args.pages.now c.loop-page.page-index 0 in
+    let line = copy_line_short c.args.station page c.requires.station (c.requires.pages c.loop-page.page-index (omega arith)) in
+    omega (arith, line)
 
 pub loop-page-preserved : goal.loop-page-preserved
 loop-page-preserved c =
-    c.in_ok-extend_from_slice.ensures.items ∙ ap₂ ◌++◌ c.loop-page.invariant (c.as_bytes.ensures.value ∙ c.in_ok-for_copy.ensures)
-    ∙ copy_lines_more c.args.station c.args.pages.now c.loop-page.page-index c.loop-page-test.true
-
-pub returns : goal.returns
-returns c =
-    let all : c.loop-page.page-index ≡ length c.args.pages.now = omega arith in
-    c.loop-page.invariant ∙ ap (λ i. copy_lines c.args.station (take i c.args.pages.now)) all ∙ ap (copy_lines c.args.station) (take-length c.args.pages.now)
+    let i = c.loop-page.page-index in
+    let page = get_or c.args.pages.now i 0 in
+    let line = copy_line_short c.args.station page c.requires.station (c.requires.pages i (omega arith)) in
+    record {
+      lines = c.put_copy.ensures ∙ ap (λ text. text ++ copy_line c.args.station page) c.loop-page.invariant.lines
+          ∙ append_assoc c.args.text.now (copy_lines c.args.station (take i c.args.pages.now)) (copy_line c.args.station page)
+          ∙ ap (λ lines. c.args.text.now ++ lines) (copy_lines_more c.args.station c.args.pages.now i c.loop-page-test.true);
+      short = omega (arith, line, ap length c.put_copy.ensures, length-append c.loop-page.text (copy_line c.args.station page));
+    }
