@@ -5,8 +5,16 @@ mod c {
     use crate::plain::List;
 
     extern "C" {
-        pub fn wulambey_page_signature(field: u32, job: *const u8, job_len: usize, page_length: usize, page: usize) -> u32;
-        pub fn wulambey_row_sum(field: u32, row: *const u32, row_len: usize, j: usize) -> u32;
+        pub fn wulambey_page_signature(
+            field: u32,
+            job: *const u8,
+            job_len: usize,
+            page_length: usize,
+            page: usize,
+            signature: *mut u32,
+            place: *mut usize,
+        ) -> u32;
+        pub fn wulambey_row_sum(field: u32, row: *const u32, row_len: usize, j: usize, sum: *mut u32, place: *mut usize) -> u32;
         pub fn wulambey_solve(
             field: u32,
             pages: usize,
@@ -69,11 +77,17 @@ mod c {
 }
 
 pub fn page_signature(field: u32, job: &[u8], length: usize, page: usize) -> u32 {
-    unsafe { c::wulambey_page_signature(field, job.as_ptr(), job.len(), length, page) }
+    let (mut signature, mut place) = (0, 0);
+    let status = unsafe { c::wulambey_page_signature(field, job.as_ptr(), job.len(), length, page, &mut signature, &mut place) };
+    assert_eq!(status, 0);
+    signature
 }
 
 pub fn row_sum(field: u32, row: &[u32], j: usize) -> u32 {
-    unsafe { c::wulambey_row_sum(field, row.as_ptr(), row.len(), j) }
+    let (mut sum, mut place) = (0, 0);
+    let status = unsafe { c::wulambey_row_sum(field, row.as_ptr(), row.len(), j, &mut sum, &mut place) };
+    assert_eq!(status, 0);
+    sum
 }
 
 /// How many pages the solution has, in the list.

@@ -8,8 +8,8 @@
      251 to 253 how a tally is judged (wulambey_weigh and wulambey_settle only)
      254        there is no solution (wulambey_solve only); nothing was written
      255        no field has the number; nothing was written
-   *place is written by a refusal alone, or where a line below says so. *count is written with 0 alone. A buffer that is written keeps what
-   it holds past what is written.
+   *place is written by a refusal alone, or where a line below says so. *count, *signature and *sum are written with 0 alone. A buffer that is
+   written keeps what it holds past what is written.
 
    Where several rules are due, a call is refused by the first of them, in the order given with it.
 
@@ -53,17 +53,18 @@ extern "C" {
 #define WULAMBEY_NO_SOLUTION 254u
 #define WULAMBEY_NO_FIELD 255u
 
-/* What wulambey_page_signature and wulambey_row_sum return if no field has the number. */
-#define WULAMBEY_NO_CODE 4294967295u
-
 /* Room that always suffices: a card's words; a reply's words; a list's places; a text's bytes. */
 #define WULAMBEY_CARD_WORDS 1920
 #define WULAMBEY_REPLY_WORDS (4 + 1920)
 #define WULAMBEY_LIST_PLACES 129
 #define WULAMBEY_TEXT_BYTES (8 * 255 * 6 + 16)
 
-/* How many sums a station tells. */
+/* How many sums a station tells, and the words of a tally. */
 #define WULAMBEY_SUMS 128
+#define WULAMBEY_TALLY_WORDS(stations, pages) ((stations) * ((pages) + WULAMBEY_SUMS))
+
+/* The bytes of stack that suffice for each call, whatever it is handed: measured by hosts/stack/run. */
+#define WULAMBEY_STACK 1441792
 
 /* One page of a solution, with its code, which is not 0. */
 typedef struct {
@@ -113,19 +114,34 @@ uint32_t wulambey_findings(const uint8_t *input, size_t input_len, uint8_t *text
 
 /* The calls below are parts of the ones above, for programs that keep a tally of their own. */
 
-/* The signature of page `page` of a job, one of 1 to its number of pages. 4,294,967,295: no field has the number. */
-uint32_t wulambey_page_signature(uint32_t field, const uint8_t *job, size_t job_len, size_t page_length, size_t page);
+/* The signature of page `page` of a job, into *signature. The job's pages have page_length bytes; a short last page is filled with zero bytes.
+   Refused: the page length is not 1 to 4,096 (1, place 7); the number of pages is not 1 to 255 in small, 1 to 1,920 in wide and prime (1,
+   place 3); the page is not 1 to the number of pages (11, place 0). */
+uint32_t wulambey_page_signature(uint32_t field, const uint8_t *job, size_t job_len, size_t page_length, size_t page, uint32_t *signature,
+                                 size_t *place);
 
-/* Sum j of a row. 4,294,967,295: no field has the number. */
-uint32_t wulambey_row_sum(uint32_t field, const uint32_t *row, size_t row_len, size_t j);
+/* Sum j of a row, into *sum. A word of the row that is q or more counts modulo q.
+   Refused: the number of words is not one that a job's pages can have (1, place 3); j is not 1 to 128 (11, place 0). */
+uint32_t wulambey_row_sum(uint32_t field, const uint32_t *row, size_t row_len, size_t j, uint32_t *sum, size_t *place);
 
-/* Judges a tally by its sums and row 1, as a check that is not plain does at weighing, and at settling; also where a check with these numbers
-   would be plain. The tally has a row of pages + 128 words for each station. 0: the rows are filled, and the signatures of all rows but row 1
-   are written; whether each page has a majority is for the caller to see. 251: over; 252: split, with the page in *place; 253: a station is to
-   be asked again, with its number in *place; with these three the tally stays as it was.
+/* Weighing judges a tally as a check that is not plain does after its first asking, also where a check with these numbers would be plain.
+   The tally has a row of pages + 128 words for each station, in order: its signatures by page, then its sums 1 to 128. The outcome depends on row
+   1's signatures and on the sums 1 to h of every row; h is the bound, or with three stations half of 3 * bound, rounded up. Words of q or more
+   count modulo q.
+     0     the rows are filled: in all rows but row 1 the signatures are written, as codes. Whether each page has a majority is for the caller to
+           see. No other word is written: row 1 and the sums stay as they were
+     251   over
+     252   split, with the page in *place
+     253   a station is to be asked again, with its number in *place: for its sums h + 1 to J; J is the lower of
+           pages and 2 * bound
+   With 251, 252 and 253 the tally stays as it was.
    Refused: the number of stations is not 3 to 8 (1, place 2); the number of pages is not 1 to 255 in small, 1 to 1,920 in wide and prime (1,
    place 3); the bound is not 1 to 64 (1, place 4); a tally that is too short for its rows (2, place 1). */
 uint32_t wulambey_weigh(uint32_t field, size_t stations, size_t pages, size_t bound, uint32_t *tally, size_t tally_len, size_t *place);
+
+/* Settling judges a tally once the station that weighing names has told its other sums. It works weighing out anew from the tally that it is handed.
+   Where that asks nobody again, it ends as weighing does. Where it asks a station, the outcome also depends on the sums h + 1 to J of that station
+   and of row 1. It never asks again: it returns 0, 251 or 252, as weighing does, or a refusal in the same order. */
 uint32_t wulambey_settle(uint32_t field, size_t stations, size_t pages, size_t bound, uint32_t *tally, size_t tally_len, size_t *place);
 
 #ifdef __cplusplus

@@ -1,3 +1,4 @@
 pub mod Judged
 pub mod Written
 pub mod Served
+pub mod Signed

@@ -1,6 +1,6 @@
-pub mod Numbered
 pub mod Ending
 pub mod Signing
+pub mod Single
 pub mod Serving
 pub mod Findings
 pub mod Solving

@@ -23,9 +23,6 @@ pub(crate) const NONE: u32 = 254;
 // No field has the number.
 pub(crate) const NO_FIELD: u32 = 255;
 
-// The same where a code is returned; it is no code of any field.
-pub(crate) const NO_CODE: u32 = 0xFFFF_FFFF;
-
 // A refusal's number, with its place beside it.
 pub(crate) fn refuse(refusal: Refusal, place: &mut usize) -> u32
     ensures status { result ≡ Numbers.number refusal }
