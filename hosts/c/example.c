@@ -1,8 +1,10 @@
-/* From C: signs a job, serves a request from its card, shows a refused call, and judges the example farm. Built and run by hosts/c/run. */
+/* From C: signs a job, serves a request from its card, shows refused calls, judges the example farm, and weighs and settles a tally.
+   Built and run by hosts/c/run. */
 #include "wulambey.h"
 
 #include <inttypes.h>
 #include <stdio.h>
+#include <string.h>
 
 static void print_words(const char *what, const uint32_t *words, size_t count)
 {
@@ -17,6 +19,48 @@ static int failed(const char *call, uint32_t status, size_t place)
 {
     printf("%s: status %" PRIu32 ", place %zu\n", call, status, place);
     return 1;
+}
+
+enum { STATIONS = 4, PAGES = 3, ROW = PAGES + WULAMBEY_SUMS };
+
+/* Sum j of a row, at its place in the row of a station, counted from 0. */
+static uint32_t tell(uint32_t *tally, size_t station, const uint32_t *row, size_t j, size_t *place)
+{
+    return wulambey_row_sum(WULAMBEY_PRIME, row, PAGES, j, &tally[station * ROW + PAGES + j - 1], place);
+}
+
+/* Four stations, three pages, a bound of 1: check 5 of docs/RULES.md, without a check. All rows are 3, 0, 5 but that of station 4, which is
+   3, 7, 5. */
+static int judge(void)
+{
+    const uint32_t own[PAGES] = {3, 0, 5}, fourth[PAGES] = {3, 7, 5};
+    uint32_t tally[WULAMBEY_TALLY_WORDS(STATIONS, PAGES)] = {0};
+    size_t place = 0;
+
+    /* row 1, and sum 1 of each row */
+    memcpy(tally, own, sizeof own);
+    uint32_t status = WULAMBEY_DONE;
+    for (size_t station = 0; station < STATIONS && status == WULAMBEY_DONE; station++)
+        status = tell(tally, station, station == 3 ? fourth : own, 1, &place);
+    if (status != WULAMBEY_DONE)
+        return failed("sum 1", status, place);
+    status = wulambey_weigh(WULAMBEY_PRIME, STATIONS, PAGES, 1, tally, WULAMBEY_TALLY_WORDS(STATIONS, PAGES), &place);
+    if (status != WULAMBEY_ASKS)
+        return failed("weigh", status, place);
+    printf("asks %zu\n", place);
+
+    /* sum 2 of row 1 and of the station that is asked */
+    status = tell(tally, 0, own, 2, &place);
+    if (status == WULAMBEY_DONE)
+        status = tell(tally, 3, fourth, 2, &place);
+    if (status != WULAMBEY_DONE)
+        return failed("sum 2", status, place);
+    status = wulambey_settle(WULAMBEY_PRIME, STATIONS, PAGES, 1, tally, WULAMBEY_TALLY_WORDS(STATIONS, PAGES), &place);
+    if (status != WULAMBEY_DONE)
+        return failed("settle", status, place);
+    const uint32_t *row = tally + 3 * ROW;
+    printf("row 4 %" PRIu32 " %" PRIu32 " %" PRIu32 "\n", row[0], row[1], row[2]);
+    return 0;
 }
 
 int main(void)
@@ -55,6 +99,13 @@ int main(void)
         return failed("serve at station 3", status, place);
     printf("refused %" PRIu32 " %zu\n", status, place);
 
+    /* The job has no page 3: 11, place 0. */
+    uint32_t signature = 0;
+    status = wulambey_page_signature(WULAMBEY_PRIME, job, sizeof job, 3, 3, &signature, &place);
+    if (status != WULAMBEY_RANGE || place != 0)
+        return failed("the signature of page 3", status, place);
+    printf("refused %" PRIu32 " %zu\n", status, place);
+
     /* The example farm: four stations, three pages, a bound of 1. */
     const uint8_t farm[] = {4, 3, 1, 3, 0, 5, 3, 0, 5, 3, 0, 5, 3, 7, 5};
     uint8_t text[WULAMBEY_TEXT_BYTES] = {0};
@@ -62,5 +113,5 @@ int main(void)
     if (status != WULAMBEY_DONE)
         return failed("findings", status, place);
     fwrite(text, 1, count, stdout);
-    return 0;
+    return judge();
 }
