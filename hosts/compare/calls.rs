@@ -395,3 +395,50 @@ pub fn serve_job(random: &mut Random) -> Compared {
         )
     })
 }
+
+/// Mostly one of 1 to this, else one outside.
+fn some_index(random: &mut Random, most: usize) -> usize {
+    match random.below(20) {
+        0 => 0,
+        1 => most + 1,
+        2 => random.one(&[usize::MAX, 1 << 32, 129, 1_921]),
+        3 => most,
+        _ => random.from(1, most.max(1)),
+    }
+}
+
+pub fn page_signature(random: &mut Random) -> Compared {
+    let (number, known, field) = field(random);
+    let (job, length) = some_job(random, &field);
+    let page = some_index(random, if length == 0 { 0 } else { job.len().div_ceil(length) });
+    let before = random.word();
+    let (mut signature, mut place) = (before, UNWRITTEN);
+    let status = unsafe { raw::wulambey_page_signature(number, job.as_ptr(), job.len(), length, page, &mut signature, &mut place) };
+    let result = signatures::page_signature(&field, &job, length, page);
+    let wanted = wanted(known, |_| result.map(|code| vec![code]));
+    let mut all = same(&wanted, &[before], status, None, place, &[signature]);
+    if all.is_ok() && known.is_some() {
+        all = safe(wulambey::page_signature(safe_field(number), &job, length, page), &result);
+    }
+    all.map(|()| way("signed", &wanted)).map_err(|why| {
+        let job = hex(&job);
+        format!("{why}\nfield {number}, page length {length}, page {page}, job\n{job}")
+    })
+}
+
+pub fn row_sum(random: &mut Random) -> Compared {
+    let (number, known, field) = field(random);
+    let row = some_card(random, &field);
+    let j = some_index(random, 128);
+    let before = random.word();
+    let (mut sum, mut place) = (before, UNWRITTEN);
+    let status = unsafe { raw::wulambey_row_sum(number, row.as_ptr(), row.len(), j, &mut sum, &mut place) };
+    let result = signatures::row_sum(&field, &row, j);
+    let wanted = wanted(known, |_| result.map(|code| vec![code]));
+    let mut all = same(&wanted, &[before], status, None, place, &[sum]);
+    if all.is_ok() && known.is_some() {
+        all = safe(wulambey::row_sum(safe_field(number), &row, j), &result);
+    }
+    all.map(|()| way("summed", &wanted))
+        .map_err(|why| format!("{why}\nfield {number}, sum {j}, row\n{}", hex_words(&row)))
+}

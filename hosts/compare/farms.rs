@@ -3,10 +3,10 @@
 use crate::random::Random;
 use crate::reference::fields::{numbered, Field, SMALL};
 use crate::reference::linear::codes_at;
-use crate::reference::verdict::{self, Scheme, Settled, Weighed};
+use crate::reference::verdict::{self, Scheme, Settled};
 use crate::reference::{program, signatures, Refusal, SUMS};
-use crate::wulambey::{self, raw, ASKS, OVER, SPLIT};
-use crate::{field_number, hex, hex_words, safe, same, Compared, Wanted, UNWRITTEN};
+use crate::wulambey::{self, raw, Outcome, Weighed, ASKS, OVER, SPLIT};
+use crate::{field_number, hex, hex_words, safe, safe_field, same, Compared, Wanted, UNWRITTEN};
 
 /// The numbers of a check, within the limits.
 fn some_scheme(random: &mut Random, field: &Field) -> Scheme {
@@ -222,9 +222,8 @@ pub fn findings(random: &mut Random) -> Compared {
 }
 
 /// What a judged tally is to give: a status, a place, and the words of the tally after it.
-/// A tally that is judged without a check is judged by its sums, also where a check with these numbers would be plain. RULES.md does not say so;
-/// it is what the library does.
-fn judged(field: &Field, scheme: &Scheme, tally: &[u32], settles: bool) -> Result<(u32, Option<usize>, Vec<u32>, &'static str), Refusal> {
+/// A tally that is judged without a check is judged by its sums, also where a check with these numbers would be plain.
+fn judged(field: &Field, scheme: &Scheme, tally: &[u32], settles: bool) -> Judgement {
     scheme.limits(field)?;
     let words = scheme.row_words();
     if tally.len() < scheme.stations * words {
@@ -242,10 +241,10 @@ fn judged(field: &Field, scheme: &Scheme, tally: &[u32], settles: bool) -> Resul
         verdict::settle(field, scheme, own, &sums)
     } else {
         match verdict::weigh(field, scheme, own, &sums) {
-            Weighed::Over(rule) => Settled::Over(rule),
-            Weighed::Rows(rows, rule) => Settled::Rows(rows, rule),
-            Weighed::Split(page, rule) => Settled::Split(page, rule),
-            Weighed::Asks(again) => return Ok((ASKS, Some(again.station), after, again.rule)),
+            verdict::Weighed::Over(rule) => Settled::Over(rule),
+            verdict::Weighed::Rows(rows, rule) => Settled::Rows(rows, rule),
+            verdict::Weighed::Split(page, rule) => Settled::Split(page, rule),
+            verdict::Weighed::Asks(again) => return Ok((ASKS, Some(again.station), after, again.rule)),
         }
     };
     Ok(match end {
@@ -258,6 +257,33 @@ fn judged(field: &Field, scheme: &Scheme, tally: &[u32], settles: bool) -> Resul
             (0, None, after, rule)
         }
     })
+}
+
+type Judgement = Result<(u32, Option<usize>, Vec<u32>, &'static str), Refusal>;
+
+/// Compares what the safe module makes of the tally.
+fn by_module(number: u32, scheme: &Scheme, tally: &[u32], settles: bool, judgement: &Judgement) -> Result<(), String> {
+    let field = safe_field(number);
+    let Scheme { stations, pages, bound } = *scheme;
+    let mut after = tally.to_vec();
+    let got = if settles {
+        wulambey::settle(field, stations, pages, bound, &mut after).map(Weighed::Ended)
+    } else {
+        wulambey::weigh(field, stations, pages, bound, &mut after)
+    };
+    let wanted = judgement.as_ref().map_err(|refusal| *refusal).map(|(status, place, _, _)| match (*status, *place) {
+        (OVER, _) => Weighed::Ended(Outcome::Over),
+        (SPLIT, Some(page)) => Weighed::Ended(Outcome::Split(page)),
+        (ASKS, Some(station)) => Weighed::Asks(station),
+        _ => Weighed::Ended(Outcome::Filled),
+    });
+    safe(got, &wanted)?;
+    let left = judgement.as_ref().map_or(tally, |(_, _, words, _)| words);
+    if after == left {
+        Ok(())
+    } else {
+        Err("the safe module leaves another tally".to_string())
+    }
 }
 
 pub fn judge(random: &mut Random) -> Compared {
@@ -325,7 +351,9 @@ pub fn judge(random: &mut Random) -> Compared {
                 &mut place,
             )
         };
-        let (wanted, name) = match known.map(|field| judged(&field, &scheme, &tally, settles)) {
+        let judgement = known.map(|field| judged(&field, &scheme, &tally, settles));
+        let by_module = judgement.as_ref().map_or(Ok(()), |judgement| by_module(number, &scheme, &tally, settles, judgement));
+        let (wanted, name) = match judgement {
             None => (Wanted::Ends(255, None), "no field".to_string()),
             Some(Err(Refusal { number, place })) => (Wanted::Ends(number, Some(place)), format!("refused {number} {place}")),
             Some(Ok((status, place, words, rule))) => {
@@ -343,7 +371,7 @@ pub fn judge(random: &mut Random) -> Compared {
                 (wanted, format!("{what} by {rule}"))
             }
         };
-        same(&wanted, &tally, status, None, place, &after).map_err(|why| {
+        same(&wanted, &tally, status, None, place, &after).and(by_module).map_err(|why| {
             let Scheme { stations, pages, bound } = scheme;
             format!(
                 "{call}, {why}\nfield {number}, M {stations}, N {pages}, f {bound}, tally\n{}",

@@ -15,7 +15,7 @@ use std::collections::BTreeMap;
 /// What a random case was, for counting; or how the two differ.
 pub type Compared = Result<String, String>;
 
-const KINDS: [(&str, fn(&mut Random) -> Compared); 7] = [
+const KINDS: [(&str, fn(&mut Random) -> Compared); 9] = [
     ("sign", calls::sign),
     ("sums", calls::sums),
     ("solve", calls::solve),
@@ -23,7 +23,12 @@ const KINDS: [(&str, fn(&mut Random) -> Compared); 7] = [
     ("serve_job", calls::serve_job),
     ("findings", farms::findings),
     ("weigh, settle", farms::judge),
+    ("page_signature", calls::page_signature),
+    ("row_sum", calls::row_sum),
 ];
+
+/// The header: the stack that it names is that of the threads that make the calls.
+const HEADER: &str = include_str!("../wulambey.h");
 
 /// The most inputs of each kind.
 const MOST: u64 = 1_000_000;
@@ -35,30 +40,49 @@ fn main() {
         eprintln!("usage: compare [SEED] [COUNT], numbers, and COUNT at most {MOST}");
         std::process::exit(2);
     };
-    println!("seed {seed}, {count} of each kind");
+    if !HEADER.contains(&format!("#define WULAMBEY_STACK {}\n", wulambey::STACK)) {
+        println!("the stack of wulambey.h and that of wulambey.rs differ");
+        std::process::exit(1);
+    }
+    println!("seed {seed}, {count} of each kind, on {} bytes of stack", wulambey::STACK);
     if let Err(difference) = known() {
         println!("{difference}");
         std::process::exit(1);
     }
     for (at, (kind, compare)) in KINDS.into_iter().enumerate() {
         // each kind has numbers of its own, so that it can be read alone
-        let mut random = Random::new(Random::new(seed).bits() ^ Random::new(at as u64).bits());
-        let mut ways: BTreeMap<String, u64> = BTreeMap::new();
-        for case in 1..=count {
-            match compare(&mut random) {
-                Ok(way) => *ways.entry(way).or_default() += 1,
-                Err(difference) => {
-                    println!("{kind}, case {case} differs\n{difference}");
-                    std::process::exit(1);
-                }
+        let random = Random::new(Random::new(seed).bits() ^ Random::new(at as u64).bits());
+        let ways = match on_stack(|| compare_all(compare, random, count)) {
+            Ok(ways) => ways,
+            Err(difference) => {
+                println!("{kind}, {difference}");
+                std::process::exit(1);
             }
-        }
+        };
         println!("{kind}: {count} the same");
         for (way, count) in ways {
             println!("  {count:>7} {way}");
         }
     }
     println!("no difference");
+}
+
+/// Does this in a thread that has exactly the stack that the header names.
+fn on_stack<T: Send>(work: impl FnOnce() -> T + Send) -> T {
+    std::thread::scope(|scope| {
+        let thread = std::thread::Builder::new().stack_size(wulambey::STACK).spawn_scoped(scope, work);
+        thread.expect("there is a thread").join().expect("it ends")
+    })
+}
+
+/// How many of so many cases went which way; or how the first one differs that does.
+fn compare_all(compare: fn(&mut Random) -> Compared, mut random: Random, count: u64) -> Result<BTreeMap<String, u64>, String> {
+    let mut ways = BTreeMap::new();
+    for case in 1..=count {
+        let way = compare(&mut random).map_err(|difference| format!("case {case} differs\n{difference}"))?;
+        *ways.entry(way).or_default() += 1;
+    }
+    Ok(ways)
 }
 
 /// Values from elsewhere: the second implementation has the examples of the rules, and the findings on the farms in crates/farms.

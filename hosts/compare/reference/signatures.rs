@@ -30,6 +30,15 @@ pub fn sign(field: &Field, job: &[u8], length: usize) -> Result<Vec<u32>, Refusa
     Ok(job.chunks(length).map(signature).collect())
 }
 
+/// The signature of one of the job's pages.
+pub fn page_signature(field: &Field, job: &[u8], length: usize, page: usize) -> Result<u32, Refusal> {
+    let card = sign(field, job, length)?;
+    match page.checked_sub(1).and_then(|at| card.get(at)) {
+        Some(&signature) => Ok(signature),
+        None => refused(11, 0),
+    }
+}
+
 /// Sum j of a row, by Horner's rule from its last page.
 pub fn sum(field: &Field, row: &[u32], j: usize) -> u32 {
     let point = field.power(field.alpha, j);
@@ -47,4 +56,15 @@ pub fn sums(field: &Field, card: &[u32], count: usize) -> Result<Vec<u32>, Refus
         return refused(11, 0);
     }
     Ok((1..=count).map(|j| sum(field, card, j)).collect())
+}
+
+/// One of the sums 1 to 128 of a row.
+pub fn row_sum(field: &Field, row: &[u32], j: usize) -> Result<u32, Refusal> {
+    if !(1..=field.most_pages()).contains(&row.len()) {
+        return refused(1, 3);
+    }
+    if !(1..=SUMS).contains(&j) {
+        return refused(11, 0);
+    }
+    Ok(sum(field, row, j))
 }
