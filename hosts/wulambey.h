@@ -4,12 +4,13 @@
    What a call returns:
      0          it did what it says
      1 to 12    a refusal's number. *place holds its place, and nothing else was written
-     250        there is no memory (wulambey_findings only); nothing was written
      251 to 253 how a tally is judged (wulambey_weigh and wulambey_settle only)
      254        there is no solution (wulambey_solve only); nothing was written
      255        no field has the number; nothing was written
    *place is written by a refusal alone, or where a line below says so. *count, *signature and *sum are written with 0 alone. A buffer that is
    written keeps what it holds past what is written.
+
+   The calls need no memory but what they are handed and the stack: no allocator is called.
 
    Where several rules are due, a call is refused by the first of them, in the order given with it.
 
@@ -46,7 +47,6 @@ extern "C" {
 
 /* What else a call returns. */
 #define WULAMBEY_DONE 0u
-#define WULAMBEY_NO_MEMORY 250u
 #define WULAMBEY_OVER 251u
 #define WULAMBEY_SPLIT 252u
 #define WULAMBEY_ASKS 253u
@@ -108,8 +108,8 @@ uint32_t wulambey_serve_job(uint32_t field, const uint8_t *job, size_t job_len, 
 
 /* The findings on a farm of cards in the small field. input: the bytes M, N, f, then M times N signatures, station by station. All bytes that
    the program wulambey writes for them are at the front of text, *count of them: lines `station page`, or `split page`, or `over`, then `sums
-   count`; where the farm is refused, the line `refused NUMBER PLACE`. With 250 there was no memory.
-   Refused: a text buffer that is too short for these bytes (2, place 2). */
+   count`; where the farm is refused, the line `refused NUMBER PLACE`. No memory is needed.
+   Refused: a text buffer that is too short for these bytes (2, place 2); nothing is written then. */
 uint32_t wulambey_findings(const uint8_t *input, size_t input_len, uint8_t *text, size_t text_len, size_t *count, size_t *place);
 
 /* The calls below are parts of the ones above, for programs that keep a tally of their own. */

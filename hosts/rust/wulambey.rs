@@ -94,7 +94,6 @@ pub mod raw {
 
 /// The statuses beside those of refusals.
 pub const DONE: u32 = 0;
-pub const NO_MEMORY: u32 = 250;
 pub const OVER: u32 = 251;
 pub const SPLIT: u32 = 252;
 pub const ASKS: u32 = 253;
@@ -121,8 +120,7 @@ pub enum Field {
     Prime = 3,
 }
 
-/// What was wrong and where, as docs/RULES.md has it under Refusals. It is written `refused NUMBER PLACE: WHY`. The number 250, with place 0, stands
-/// for a lack of memory, which only `findings` tells of.
+/// What was wrong and where, as docs/RULES.md has it under Refusals. It is written `refused NUMBER PLACE: WHY`.
 #[derive(Clone, Copy, PartialEq, Eq, Debug)]
 pub struct Refusal {
     pub number: u32,
@@ -143,7 +141,6 @@ impl std::fmt::Display for Refusal {
             (8, _) => "the word at this position is missing, surplus or wrong",
             (9, _) => "the request is for another station",
             (11, _) => "an index is outside its range",
-            (NO_MEMORY, _) => "there is no memory",
             _ => "RULES.md says what this number means",
         };
         write!(out, "refused {number} {place}: {why}")
