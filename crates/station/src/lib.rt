@@ -9,6 +9,7 @@ mod theorems;
 mod trait_station;
 
 pub use card::Card;
+pub use field::SUM_LIMIT;
 pub use questions::accept_index;
 pub use serving::serve;
 pub use shelf::Shelf;
