@@ -7,9 +7,6 @@ use refusal::Refusal;
 // It did what it says.
 pub(crate) const DONE: u32 = 0;
 
-// There is no memory.
-pub(crate) const NO_MEMORY: u32 = 250;
-
 // The page of `place` is split, and so on: how a judgement ends that fills no rows.
 pub(crate) const OVER: u32 = 251;
 
