@@ -4,11 +4,10 @@
 
 use cards::CARD_ROOM;
 use fields::FieldName;
-use std::fmt;
 use std::io::{ErrorKind, Read, Write};
 use std::num::IntErrorKind;
 use std::process::ExitCode;
-use std::{env, io};
+use std::{env, fmt, io};
 
 // The bytes of the longest job: 1,920 pages of 4,096 bytes.
 const JOB_LIMIT: u64 = 1920 * 4096;
@@ -94,8 +93,7 @@ fn answer(rt: &HostRuntime) -> Result<ExitCode, Failure> {
         .read_to_end(&mut job)
         .map_err(Failure::Input)?;
     let mut text = [0; CARD_ROOM];
-    let written =
-        cards::card_in(task.field, task.page_length, job.as_slice(), &mut text).unwrap();
+    let written = cards::card_in(task.field, task.page_length, job.as_slice(), &mut text).unwrap();
     rt.stdout()
         .write_all(&text[..written.count])
         .map_err(Failure::Output)?;

@@ -1,5 +1,5 @@
 -- How a check of cards ends: by weighing, or by one more exchange and settling.
-use Rattle.std.proofs.Common.{◌≡◌, ℕ, suc, ◌+◌, ◌-◌, ◌*◌, ◌≤◌, ◌<◌, ◌≢◌, ◌⊎◌, List, ◌∷◌, length, Some, None, inl, inr, sym, refl, ap, ap₂, ◌∙◌, subst, arith}
+use Rattle.std.proofs.Common.{◌≡◌, ℕ, suc, ◌+◌, ◌-◌, ◌*◌, ◌≤◌, ◌<◌, ◌≢◌, ◌⊎◌, List, ◌∷◌, length, Some, None, inl, inr, zero-add, sym, refl, ap, ap₂, ◌∙◌, subst, arith}
 use Rattle.field.specs.Field.{Ops, Laws, Spread}
 use native.Mathlib.Decide.{ℕ_discrete}
 use Rattle.refusal.specs.declared.Refusal.{Refusal}
@@ -23,7 +23,7 @@ use Rattle.calls.specs.Closing.{closing, WeighCloses, WeighAsks, WeighEnds, Sett
 use Rattle.calls.specs.Slips.{standing}
 use Rattle.calls.specs.Runs.{Stage, second, closed, weigh, settle, called, weigh_closes, weigh_asks, settle_closes}
 use Rattle.calls.specs.Steady.{copies, sums, FarmHolds}
-use Rattle.calls.specs.Promise.{TrulyWeighs, TrulyAsks, Judged, Right, EveryRun}
+use Rattle.calls.specs.Promise.{taken_by, all_calls, TrulyWeighs, TrulyAsks, Judged, Right, EveryRun}
 use Rattle.calls.specs.Replies.{ClosedAs}
 use Rattle.desk.specs.Copies.{cards}
 use Rattle.desk.specs.Exchange.{Ready, Exchange}
@@ -42,6 +42,10 @@ module _ (f : Ops) (laws : Laws f) (spread : Spread f) (promise : EveryRun) (M N
     (b : Book) (g : Stage) (after : List ℕ) (stands : Stands b.terms 1 M N bound) (calls : Calls f M N bound words before b g after) where
   held : FarmHolds f b.terms.stations b.terms.pages (cards f N words)
   held = by_terms (λ M' N' bound'. FarmHolds f M' N' (cards f N words) → FarmHolds f b.terms.stations b.terms.pages (cards f N words)) b.terms 1 M N bound stands (λ h. h) (cards_held f M N words whole laws)
+
+  -- the check's count of what was taken is that of its calls
+  pub taken_counted : b.counts.taken ≡ all_calls taken_by calls.calls
+  taken_counted = (promise f laws spread (cards f N words 1) calls.opened calls.calls b g calls.run).0.taken
 
   pub judged_right : Judged f (cards f N words) b.terms after g
       × (Plain M N bound ⊎ (strays M (copies (cards f N words)) N ≤ bound) → Right (copies (cards f N words)) b.terms after g)
@@ -77,7 +81,7 @@ module _ (f : Ops) (laws : Laws f) (spread : Spread f) (promise : EveryRun) (M N
       | inr x ↦ (first_sums b.terms.stations b.terms.bound, inr (x.0, refl))
     ])
 
-    all_taken : b.counts.taken ≡ (M - 1) * first_asked.0
+    all_taken : all_calls taken_by going.so_far.calls ≡ (M - 1) * first_asked.0
     all_taken = going.due first_asked.0 first_asked.1 ∙ ap (λ k. k * first_asked.0) (let e : M + 1 - 2 ≡ M - 1 = omega arith in e)
 
     module _ (v : Verdict) (b' : Book) (after : List ℕ) (w : WeighCloses f b tally v b' after) where
@@ -114,6 +118,7 @@ module _ (f : Ops) (laws : Laws f) (spread : Spread f) (promise : EveryRun) (M N
           ]
 
       pub by_weighing : Checked M N bound f words before b' v after
+      unfolding first_asked calls_weighed
       by_weighing =
           let r = judged_right f laws spread promise M N bound words before whole b' (closed ByWeighing v) after stands_closed calls_weighed in
           record {
@@ -121,7 +126,7 @@ module _ (f : Ops) (laws : Laws f) (spread : Spread f) (promise : EveryRun) (M N
             terms = stands_closed;
             fits = omega (arith, going.fits, finds_size (WeighEnds f b.terms tally) b.terms.stations b.terms.pages tally after v w.finds);
             by_calls = calls_weighed;
-            taken = (first_asked.0, first_asked.1, inr (nobody_again, ap (λ (b : Book). b.counts.taken) w.book ∙ all_taken));
+            taken = (first_asked.0, first_asked.1, inr (nobody_again, taken_counted f laws spread promise M N bound words before whole b' (closed ByWeighing v) after stands_closed calls_weighed ∙ zero-add _ ∙ all_taken));
             judged = r.0;
             right = r.1;
           }
@@ -213,20 +218,23 @@ module _ (f : Ops) (laws : Laws f) (spread : Spread f) (promise : EveryRun) (M N
                   (asked.0, (refl, asked.1), (tt, asked.2));
             }
 
+        stands_settled : Stands d.terms 1 M N bound
+        stands_settled = subst (λ (b : Book). Stands b.terms 1 M N bound) (sym s.book) (subst (λ t. Stands t 1 M N bound) (sym (terms_kept x)) stands_again)
+
         rest_taken : d.counts.taken ≡ (M - 1) * first_asked.0 + (all_sums N bound - first_sums M bound)
+        unfolding first_asked calls_asked calls_settled
         rest_taken =
-            ap (λ (b : Book). b.counts.taken) s.book ∙ taken_more x
-            ∙ ap₂ ◌+◌ (ap (λ c. c.taken) w.again.counts ∙ all_taken)
+            taken_counted f laws spread promise M N bound words before whole d (closed (BySettling k) v) after stands_settled calls_settled
+            ∙ zero-add _ ∙ taken_more x calls_asked.calls ∙ ap₂ ◌+◌ (zero-add _ ∙ all_taken)
             (let from = x.slips.1.request.3 in let to = x.slips.1.request.4 in
             let r : suc x.slip.request.last - x.slip.request.first ≡ all_sums N bound - first_sums M bound = omega (arith, from, to, second_from, second_to) in r)
 
         pub by_settling : Checked M N bound f words before d v after
         by_settling =
-            let r = judged_right f laws spread promise M N bound words before whole d (closed (BySettling k) v) after
-            (subst (λ (b : Book). Stands b.terms 1 M N bound) (sym s.book) (subst (λ t. Stands t 1 M N bound) (sym (terms_kept x)) stands_again)) calls_settled in
+            let r = judged_right f laws spread promise M N bound words before whole d (closed (BySettling k) v) after stands_settled calls_settled in
             record {
               way = BySettling k;
-              terms = subst (λ (b : Book). Stands b.terms 1 M N bound) (sym s.book) (subst (λ t. Stands t 1 M N bound) (sym (terms_kept x)) stands_again);
+              terms = stands_settled;
               fits = omega (arith, going.fits, ap length w.written, size_kept x, finds_size (SettleEnds f e.terms told) e.terms.stations e.terms.pages told after v s.finds);
               by_calls = calls_settled;
               taken = (first_asked.0, first_asked.1, inl (again, rest_taken));

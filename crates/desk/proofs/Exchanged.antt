@@ -10,7 +10,9 @@ use Rattle.calls.specs.declared.slip.Returned.TheVariants.{Answered}
 use Rattle.calls.specs.Slips.{standing}
 use Rattle.calls.specs.Runs.{Stage, Call, slip, take, return, AsksOnly, Run, called, slips, takes, returns}
 use Rattle.calls.specs.Steady.{Steady}
+use Rattle.calls.specs.Promise.{taken_by, all_calls}
 use Rattle.calls.proofs.StandingsSet.{standing_other, standing_same}
+use Rattle.calls.proofs.ValuesPerReply.{values_after_header}
 use Rattle.desk.specs.Exchange.{Exchange}
 
 module _ {f : Ops} {row : List ℕ} {only : Option ℕ} {s : ℕ} {b : Book} {before : List ℕ} {b' : Book} {after : List ℕ}
@@ -31,11 +33,6 @@ module _ {f : Ops} {row : List ℕ} {only : Option ℕ} {s : ℕ} {b : Book} {be
   pub handed_more : b'.counts.handed ≡ b.counts.handed + 1
   handed_more = ap (λ c. c.handed) (x.returns.1.counts) ∙ ap (λ c. c.handed) (x.takes.1.counts) ∙ ap (λ c. c.handed) (x.slips.1.counts)
 
-  pub taken_more : b'.counts.taken ≡ b.counts.taken + values_due x.slip.request
-  taken_more =
-      ap (λ c. c.taken) (x.returns.1.counts) ∙ ap (λ c. c.taken) (x.takes.1.counts)
-      ∙ ap (λ n. x.handed.counts.taken + n) x.takes.1.reply.count ∙ ap (λ c. c.taken + values_due x.slip.request) (x.slips.1.counts)
-
   inside : x.slip.request.station < length x.taken.standings
   inside = let within = x.slips.0.1.0 in omega (arith, x.taken.full, b.terms.stations_in, within, station_is)
 
@@ -54,6 +51,13 @@ module _ {f : Ops} {row : List ℕ} {only : Option ℕ} {s : ℕ} {b : Book} {be
   abbrev pub three_calls : List Call → List Call
   three_calls ks =
       return x.slip (Ok Answered) ∷ take x.slip x.reply before (Ok _) after ∷ slip s x.blank (Ok x.slip) x.request ∷ ks
+
+  -- they take as many values as the request asks for
+  pub taken_more : (ks : List Call) → all_calls taken_by (three_calls ks) ≡ all_calls taken_by ks + values_due x.slip.request
+  taken_more ks =
+      let words = values_after_header f x.slip.request x.reply x.takes.1.values x.takes.1.reply in
+      let count = x.takes.1.reply.count in
+      omega (arith, words, count)
 
   module _ (own opened : List ℕ) (ks : List Call) where
     pub run_longer : {g : Stage} → AsksOnly g only → Run f own opened ks b g → Run f own opened (three_calls ks) b' g

@@ -11,6 +11,7 @@ use Rattle.calls.specs.Questions.{FirstAsks}
 use Rattle.calls.specs.Slips.{standing}
 use Rattle.calls.specs.Runs.{first, opened}
 use Rattle.calls.specs.Opening.{Stands, Opens}
+use Rattle.calls.specs.Promise.{taken_by, all_calls}
 use Rattle.calls.proofs.StandingsSet.{standing_start}
 use Rattle.desk.proofs.Asked.{by_terms, first_rising, first_short, first_answered, first_due}
 use Rattle.desk.specs.Copies.{cards}
@@ -62,13 +63,14 @@ module _ (f : Ops) (M N bound : ℕ) (words before : List ℕ) (next : ℕ) (b :
         let asks = x.slips.1.request in
         ap₂ (λ from to. suc to - from) asks.3 asks.4 ∙ first_due b.terms b.question M N bound stands going.question d due
 
-    due_on : (d : ℕ) → FirstDue M N bound d → b'.counts.taken ≡ (next + 1 - 2) * d
+    due_on : (d : ℕ) → FirstDue M N bound d → all_calls taken_by (three_calls x going.so_far.calls) ≡ (next + 1 - 2) * d
     due_on d due =
         let one : suc (next - 2) * d ≡ (next - 2) * d + d = suc-mul (next - 2) d in
         let same : next + 1 - 2 ≡ suc (next - 2) = omega arith in
-        taken_more x ∙ ap₂ ◌+◌ (going.due d due) (values_first d due) ∙ sym one ∙ sym (ap (λ k. k * d) same)
+        taken_more x going.so_far.calls ∙ ap₂ ◌+◌ (going.due d due) (values_first d due) ∙ sym one ∙ sym (ap (λ k. k * d) same)
 
     pub going_on : Going M N bound f words before (next + 1) b' after
+    unfolding calls_on
     going_on = record {
       so_far = calls_on;
       terms = subst (λ t. Stands t 1 M N bound) (sym (terms_kept x)) stands;
@@ -98,7 +100,7 @@ going_starts f M N bound words before own is b tally opens = record {
   heard = λ s from to. absurd (omega arith);
   free = λ s from to. standing_start b.standings opens.starts.standings s;
   handed = ap (λ c. c.handed) opens.starts.counts;
-  due = λ d due. ap (λ c. c.taken) opens.starts.counts ∙ sym (zero-mul d);
+  due = λ d due. sym (zero-mul d);
 }
   where
     here : Opens f (cards f N words 1) 1 M N bound before b tally

@@ -14,7 +14,7 @@ use Rattle.calls.specs.Questions.{FirstAsks}
 use Rattle.calls.specs.Runs.{Stage, first, closed, Call, Run}
 use Rattle.calls.specs.Slips.{standing}
 use Rattle.calls.specs.Steady.{copies, sums, Steady}
-use Rattle.calls.specs.Promise.{Judged, Right}
+use Rattle.calls.specs.Promise.{taken_by, all_calls, Judged, Right}
 use Rattle.desk.specs.Copies.{cards}
 
 -- a steady run of calls on one check, from its opening, by which the tally before became the tally after
@@ -40,7 +40,7 @@ module _ (M N bound : ℕ) where
     pub heard : (s : ℕ) → 2 ≤ s → s < next → standing b s ≡ Done
     pub free : (s : ℕ) → next ≤ s → s ≤ M → standing b s ≡ Free
     pub handed : b.counts.handed ≡ next - 2
-    pub due : (d : ℕ) → FirstDue d → b.counts.taken ≡ (next - 2) * d
+    pub due : (d : ℕ) → FirstDue d → all_calls taken_by so_far.calls ≡ (next - 2) * d
 
   module _ (f : Ops) (words : List ℕ) where
     -- some station is asked again

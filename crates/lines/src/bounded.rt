@@ -14,7 +14,9 @@ pub struct Text<const N: usize> {
 
 impl<const N: usize> Model for Text<N> {
     ghost Value = { List ℕ };
+
     ghost view = { λ t. t.bytes.items };
+
     ghost inverse = { λ xs. record { bytes = record { items = xs } } };
 }
 

@@ -5,12 +5,11 @@
 ghost use Rattle.std.specs.Prelude.{◌≤◌, length, IfOk};
 
 use desk::{FARM_ROOM, FINDINGS_ROOM};
-use std::fmt;
+use std::env::FillError;
 use std::io::{ErrorKind, Read, Write};
 use std::process::ExitCode;
 use std::rt::Env;
-use std::env::FillError;
-use std::io;
+use std::{fmt, io};
 
 // Why there is no answer.
 #[derive(Drop)]
@@ -67,7 +66,9 @@ fn answer(rt: &HostRuntime) -> Result<ExitCode, Failure> {
     let mut text = [0; FINDINGS_ROOM];
     let length = fill(&mut rt.stdin(), &mut farm).map_err(Failure::Input)?;
     let written = desk::findings(&farm[..length], &mut text).unwrap();
-    rt.stdout().write_all(&text[..written.count]).map_err(Failure::Output)?;
+    rt.stdout()
+        .write_all(&text[..written.count])
+        .map_err(Failure::Output)?;
     Ok(match written.refused {
         None => ExitCode::SUCCESS,
         Some(_) => ExitCode::FAILURE,

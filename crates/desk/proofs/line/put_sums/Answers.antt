@@ -11,4 +11,3 @@ pub put-requires-2 : goal.put-requires-2
 put-requires-2 c =
     let line = sums_line_short c.args.count c.ranges.count.fits in
     (lit< tt, omega (arith, simp length-append at line, simp length-append at (ap length c.put.ensures), simp length-append at (ap length c.put_number.ensures)))
-

@@ -7,5 +7,5 @@ abbrev pub invariant-loop-station : goal.invariant-loop-station
 invariant-loop-station l = record {
   position : l.station ≤ l.stations + 1;
   says : (lists : List Call) × Listings l.check.book.terms l.tally (l.station - 1) lists l.text;
-  short : length l.text ≤ 1530 * (l.station - 1)
+  short : length l.text ≤ 1530 * (l.station - 1);
 }
