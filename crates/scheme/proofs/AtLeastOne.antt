@@ -1,4 +1,4 @@
--- Whatever is told, weighing has an outcome, and settling has one where weighing asks.
+-- Whatever is told, weighing has an outcome, settling has one where weighing asks, and so have the two one after the other.
 use mathlib.Core.Path.{◌≡◌, refl, ap, subst}
 use mathlib.Core.Bool.{cond}
 use mathlib.Core.Logic.{◌≢◌, ◌⊎◌, inl, inr}
@@ -15,6 +15,7 @@ use Rattle.scheme.specs.Four.{Known, Fails, Scattered, asked, sum_from_leads, ro
 use Rattle.scheme.specs.Three.{Taken, third, row_of_three}
 use Rattle.scheme.specs.Settling.{SettlesFour, SettlesThree, Settles}
 use Rattle.scheme.specs.Weighing.{WeighsFour, WeighsThree, Weighs}
+use Rattle.scheme.specs.Ending.{Concludes}
 use Rattle.scheme.specs.Theorem.{Total}
 use Rattle.scheme.proofs.Codes.{Lawful}
 use Rattle.scheme.proofs.Search.{dec_and, dec_not, find, lowest, solvable}
@@ -119,18 +120,40 @@ module _ {f : Ops} {N : ℕ} (F : Lawful f N) (bound : ℕ) (T : Table) (own : �
       let i = (third_is y.0 y.1 y.3.pair).0 in
       (omega (arith, y.4), omega (arith, y.4), elim (settles_taken U y.0 y.1 y.2 y.3) [ inl z ↦ (over, z) | inr z ↦ (filled z.0, z.1) ])
 
+-- where settling comes to an outcome, and asks nobody, so do the two one after the other
+module _ (W S : Outcome → Type 0) (settles : (k : ℕ) → W (asks k) → (o : Outcome) × S o) (asks_none : (k : ℕ) → ¬ S (asks k)) where
+  then_settles : (k : ℕ) → W (asks k) → (o : Outcome) → S o → (o : Outcome) × Concludes W S o
+  then_settles k w over x = (over, inr ((k, w), x))
+  then_settles k w (split n) x = (split n, inr ((k, w), x))
+  then_settles k w (filled R) x = (filled R, inr ((k, w), x))
+  then_settles k w (asks j) x = absurd (asks_none j x)
+
+  concludes_some : (o : Outcome) → W o → (o : Outcome) × Concludes W S o
+  concludes_some over w = (over, inl w)
+  concludes_some (split n) w = (split n, inl w)
+  concludes_some (filled R) w = (filled R, inl w)
+  concludes_some (asks k) w = let s = settles k w in then_settles k w s.0 s.1
+
 pub some_outcome : Total
 some_outcome f l spread M N bound three le T U own = (
-  elim (dec_le 4 M) [
-    | yes four ↦ let o = weighs_four F bound T own M four in (o.0, inl (four, o.1))
-    | no k ↦ let o = weighs_three F bound T own in (o.0, inr (omega arith, o.1))
-  ],
+  weighs,
   settles,
+  concludes_some (Weighs f M N bound T own) (Settles f M N bound T U own) (λ k w. (settles k w).2) none weighs.0 weighs.1,
 )
   where
     F : Lawful f N
     F = record { laws = l; spread = spread; places = le }
 
+    weighs : (o : Outcome) × Weighs f M N bound T own o
+    weighs = elim (dec_le 4 M) [
+      | yes four ↦ let o = weighs_four F bound T own M four in (o.0, inl (four, o.1))
+      | no k ↦ let o = weighs_three F bound T own in (o.0, inr (omega arith, o.1))
+    ]
+
     settles : (k : ℕ) → Weighs f M N bound T own (asks k) → (2 ≤ k) × (k ≤ M) × ((o : Outcome) × Settles f M N bound T U own o)
     settles k (inl x) = let r = settles_four F bound T own M x.0 U k x.1 in (r.0, r.1, (r.2.0, inl (x.0, r.2.1)))
     settles k (inr x) = let r = settles_three F bound T own U k x.1 in (r.0, omega (arith, r.1, x.0), (r.2.0, inr (x.0, r.2.1)))
+
+    none : (k : ℕ) → ¬ Settles f M N bound T U own (asks k)
+    none k (inl x) = x.1
+    none k (inr x) = x.1

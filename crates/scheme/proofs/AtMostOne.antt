@@ -1,8 +1,8 @@
--- Whatever is told, weighing has at most one outcome, and so has settling.
+-- Whatever is told, weighing has at most one outcome, so has settling, and so have the two one after the other.
 use mathlib.Core.Bool.{cond}
 use lib.Dec.{eqb}
 use mathlib.Core.Path.{◌≡◌, sym, ap, ap₂, subst, ◌∙◌}
-use mathlib.Core.Logic.{inl, inr}
+use mathlib.Core.Logic.{◌⊎◌, inl, inr}
 use Prim.Native.Nat.{ℕ, ◌≤◌}
 use native.Mathlib.Omega.{arith}
 use Rattle.field.specs.Field.{Ops}
@@ -13,6 +13,7 @@ use Rattle.scheme.specs.Four.{Known, Fails, Scattered, Doubted, asked, sum_from_
 use Rattle.scheme.specs.Three.{Taken, third, FromFirst, row_of_three}
 use Rattle.scheme.specs.Settling.{SettlesFour, SettlesThree, Settles}
 use Rattle.scheme.specs.Weighing.{WeighsFour, WeighsThree, Weighs}
+use Rattle.scheme.specs.Ending.{Concludes}
 use Rattle.scheme.specs.Theorem.{Alike, both_over, same_page, same_rows, same_station, One}
 use Rattle.scheme.proofs.Codes.{Lawful}
 use Rattle.scheme.proofs.Search.{lowest_one}
@@ -142,23 +143,63 @@ module _ {f : Ops} {N : ℕ} (F : Lawful f N) (bound : ℕ) (T : Table) (own : �
   weighs_three (filled Q) (split n) x y = absurd y
   weighs_three (asks k) (split n) x y = absurd y
 
+-- ── one after the other
+module _ (M N : ℕ) (W S : Outcome → Type 0) (weighs : (o p : Outcome) → W o → W p → Alike M N o p) (settles : (o p : Outcome) → S o → S p → Alike M N o p) where
+  abbrev Either : Outcome → Type 0
+  Either o = W o ⊎ (((k : ℕ) × W (asks k)) × S o)
+
+  -- an outcome that asks nobody
+  abbrev Last : Outcome → Type 0
+  Last (asks k) = ⊥
+  Last over = Unit {0}
+  Last (split n) = Unit {0}
+  Last (filled R) = Unit {0}
+
+  last : (o : Outcome) → Concludes W S o → Last o × Either o
+  last over x = (tt, x)
+  last (split n) x = (tt, x)
+  last (filled R) x = (tt, x)
+  last (asks k) x = absurd x
+
+  asks_none : (o : Outcome) (k : ℕ) → Last o → W o → ¬ W (asks k)
+  asks_none o k end x y = apart o (weighs o (asks k) x y) end
+    where
+      apart : (o : Outcome) → Alike M N o (asks k) → Last o → ⊥
+      apart (asks j) a e = e
+      apart over a e = elim a [ ]
+      apart (split n) a e = elim a [ ]
+      apart (filled R) a e = elim a [ ]
+
+  either_one : (o p : Outcome) → Last o × Either o → Last p × Either p → Alike M N o p
+  either_one o p (_, inl x) (_, inl y) = weighs o p x y
+  either_one o p (e, inl x) (_, inr y) = absurd (asks_none o y.0.0 e x y.0.1)
+  either_one o p (_, inr x) (e, inl y) = absurd (asks_none p x.0.0 e y x.0.1)
+  either_one o p (_, inr x) (_, inr y) = settles o p x.1 y.1
+
+  concludes_one : (o p : Outcome) → Concludes W S o → Concludes W S p → Alike M N o p
+  concludes_one o p x y = either_one o p (last o x) (last p y)
+
 pub one_outcome : One
-one_outcome f l spread M N bound le T U own o p = (weighs, settles)
+one_outcome f l spread M N bound le T U own o p = (
+  weighs o p,
+  settles o p,
+  concludes_one M N (Weighs f M N bound T own) (Settles f M N bound T U own) weighs settles o p,
+)
   where
     F : Lawful f N
     F = record { laws = l; spread = spread; places = le }
 
-    of_three : M ≡ 3 → Alike 3 N o p → Alike M N o p
-    of_three e a = subst (λ M. Alike M N o p) (sym e) a
+    of_three : (o p : Outcome) → M ≡ 3 → Alike 3 N o p → Alike M N o p
+    of_three o p e a = subst (λ M. Alike M N o p) (sym e) a
 
-    weighs : Weighs f M N bound T own o → Weighs f M N bound T own p → Alike M N o p
-    weighs (inl x) (inl y) = weighs_four F bound T own M x.0 o p x.1 y.1
-    weighs (inr x) (inr y) = of_three x.0 (weighs_three F bound T own o p x.1 y.1)
-    weighs (inl x) (inr y) = absurd (omega (arith, x.0, y.0))
-    weighs (inr x) (inl y) = absurd (omega (arith, x.0, y.0))
+    weighs : (o p : Outcome) → Weighs f M N bound T own o → Weighs f M N bound T own p → Alike M N o p
+    weighs o p (inl x) (inl y) = weighs_four F bound T own M x.0 o p x.1 y.1
+    weighs o p (inr x) (inr y) = of_three o p x.0 (weighs_three F bound T own o p x.1 y.1)
+    weighs o p (inl x) (inr y) = absurd (omega (arith, x.0, y.0))
+    weighs o p (inr x) (inl y) = absurd (omega (arith, x.0, y.0))
 
-    settles : Settles f M N bound T U own o → Settles f M N bound T U own p → Alike M N o p
-    settles (inl x) (inl y) = settles_four F bound T own M x.0 U o p x.1 y.1
-    settles (inr x) (inr y) = of_three x.0 (settles_three F bound T own U o p x.1 y.1)
-    settles (inl x) (inr y) = absurd (omega (arith, x.0, y.0))
-    settles (inr x) (inl y) = absurd (omega (arith, x.0, y.0))
+    settles : (o p : Outcome) → Settles f M N bound T U own o → Settles f M N bound T U own p → Alike M N o p
+    settles o p (inl x) (inl y) = settles_four F bound T own M x.0 U o p x.1 y.1
+    settles o p (inr x) (inr y) = of_three o p x.0 (settles_three F bound T own U o p x.1 y.1)
+    settles o p (inl x) (inr y) = absurd (omega (arith, x.0, y.0))
+    settles o p (inr x) (inl y) = absurd (omega (arith, x.0, y.0))

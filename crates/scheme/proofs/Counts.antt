@@ -109,10 +109,10 @@ count_four k i j s t e b c p r ij is it js jt st =
     )
 
 -- ── the place of the greatest
-higher_first : (e : ℕ → ℕ) (s t : ℕ) → e t < e s → higher e s t ≡ s
+pub higher_first : (e : ℕ → ℕ) (s t : ℕ) → e t < e s → higher e s t ≡ s
 higher_first e s t l = ap (λ b. cond b s t) (lt-ltb (e t) (e s) l)
 
-higher_second : (e : ℕ → ℕ) (s t : ℕ) → e s ≤ e t → higher e s t ≡ t
+pub higher_second : (e : ℕ → ℕ) (s t : ℕ) → e s ≤ e t → higher e s t ≡ t
 higher_second e s t l = ap (λ b. cond b s t) (le-ltb (e t) (e s) l)
 
 pub top_page : (e : ℕ → ℕ) (k : ℕ) → 1 ≤ k → Page k (top e k)

@@ -1,4 +1,5 @@
 pub mod Counts
+pub mod Lead
 pub mod Tables
 pub mod Codes
 pub mod Search

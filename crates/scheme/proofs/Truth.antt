@@ -15,7 +15,7 @@ use Rattle.scheme.specs.Four.{Doubted, asked, beside}
 use Rattle.scheme.specs.Three.{Taken, third}
 use Rattle.scheme.specs.Settling.{SettlesThree, Settles}
 use Rattle.scheme.specs.Weighing.{Weighs}
-use Rattle.scheme.specs.Ending.{Comes, Fills}
+use Rattle.scheme.specs.Ending.{Concludes, Comes, Fills}
 use Rattle.scheme.specs.Theorem.{Told, Finds, Right}
 use Rattle.scheme.proofs.Tables.{closing, decided_same, bad_same}
 use Rattle.scheme.proofs.Taken.{third_is}
@@ -198,6 +198,7 @@ module _ (f : Ops) (M N bound : ℕ) (P T U : Table) (own : ℕ → ℕ) where
     where
       some : ((o : Outcome) × Weighs f M N bound T own o)
           × ((k : ℕ) → Weighs f M N bound T own (asks k) → (2 ≤ k) × (k ≤ M) × ((o : Outcome) × Settles f M N bound T U own o))
+          × ((o : Outcome) × Concludes (Weighs f M N bound T own) (Settles f M N bound T U own) o)
       some = some_outcome f l spread M N bound three le T U own
 
       settled : (k : ℕ) → Weighs f M N bound T own (asks k) → (o : Outcome) → Settles f M N bound T U own o → (R : Table) × Fills f M N bound T U own P R

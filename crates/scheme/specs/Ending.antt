@@ -2,10 +2,18 @@
 use Rattle.std.specs.Prelude.{◌⊎◌, ℕ}
 use Rattle.field.specs.Field.{Ops}
 use Rattle.scheme.specs.Farm.{Table, Same}
-use Rattle.scheme.specs.Askings.{Plain, Outcome, split, filled, asks}
+use Rattle.scheme.specs.Askings.{Plain, Outcome, over, split, filled, asks}
 use Rattle.scheme.specs.Settling.{Settles}
 use Rattle.scheme.specs.Weighing.{Weighs}
 use Rattle.scheme.specs.Closing.{Splits, Reports}
+
+-- what a judgement comes to, by what weighing and what settling do: weighing to o, or it asks a station again and settling comes to o; nobody is
+-- asked again after that
+abbrev pub Concludes : (Weighing Settling : Outcome → Type 0) → Outcome → Type 0
+Concludes Weighing Settling (asks k) = ⊥
+Concludes Weighing Settling over = Weighing over ⊎ (((k : ℕ) × Weighing (asks k)) × Settling over)
+Concludes Weighing Settling (split n) = Weighing (split n) ⊎ (((k : ℕ) × Weighing (asks k)) × Settling (split n))
+Concludes Weighing Settling (filled R) = Weighing (filled R) ⊎ (((k : ℕ) × Weighing (asks k)) × Settling (filled R))
 
 -- T and U are the sums that the two askings tell, own is row 1.
 module _ (f : Ops) (M N bound : ℕ) (T U : Table) (own : ℕ → ℕ) where

@@ -3,7 +3,7 @@ use Rattle.std.specs.Prelude.{◌≡◌, Bool, true, false, cond, ◌&&◌, ◌�
 use Rattle.field.specs.Field.{Ops, Laws, Spread}
 use Rattle.field.specs.Sums.{power_sum}
 use Rattle.algebra.specs.Vectors.{Page, Codes, weight}
-use Rattle.scheme.specs.Farm.{Table, Station, Same, Decided, Bad, strays}
+use Rattle.scheme.specs.Farm.{Table, Station, Lowest, Same, Decided, Bad, strays, top}
 use Rattle.scheme.specs.Askings.{first_sums, all_sums, Plain, Outcome, over, split, filled, asks}
 use Rattle.scheme.specs.Pairs.{Pair, Disjoint}
 use Rattle.scheme.specs.Differences.{Gaps, Solution, Unsolved, Suspect}
@@ -11,7 +11,7 @@ use Rattle.scheme.specs.Four.{Known, Fails}
 use Rattle.scheme.specs.Settling.{Settles}
 use Rattle.scheme.specs.Weighing.{Weighs}
 use Rattle.scheme.specs.Closing.{Splits, Reports}
-use Rattle.scheme.specs.Ending.{Comes, Fills, EndsSplit, EndsReport}
+use Rattle.scheme.specs.Ending.{Concludes, Comes, Fills, EndsSplit, EndsReport}
 
 -- What is told is the table P: T are its first sums, U all sums of row 1 and of a row that is asked again, own is row 1.
 pub record Told (f : Ops) (M N bound : ℕ) (P T U : Table) (own : ℕ → ℕ) : Type 0 where
@@ -47,19 +47,26 @@ pub data Alike (M N : ℕ) : Outcome → Outcome → Type 0 where
   same_rows : {Q R : Table} → Same M N Q R → Alike M N (filled Q) (filled R)
   same_station : {k : ℕ} → Alike M N (asks k) (asks k)
 
--- Whatever is told, weighing has at most one outcome, and so has settling.
+-- Whatever is told, weighing has at most one outcome, so has settling, and so have the two one after the other.
 abbrev pub One : Type 0
 One =
     (f : Ops) → Laws f → Spread f → (M N bound : ℕ) → N ≤ f.places → (T U : Table) (own : ℕ → ℕ) (o p : Outcome) →
     (Weighs f M N bound T own o → Weighs f M N bound T own p → Alike M N o p)
     × (Settles f M N bound T U own o → Settles f M N bound T U own p → Alike M N o p)
+    × (Concludes (Weighs f M N bound T own) (Settles f M N bound T U own) o → Concludes (Weighs f M N bound T own) (Settles f M N bound T U own) p → Alike M N o p)
 
--- Whatever is told, weighing has an outcome; and where it asks a station, that is one of 2 .. M, and settling has an outcome.
+-- Whatever is told, weighing has an outcome; where it asks a station, that is one of 2 .. M, and settling has an outcome; so the two one after the
+-- other have one.
 abbrev pub Total : Type 0
 Total =
     (f : Ops) → Laws f → Spread f → (M N bound : ℕ) → 3 ≤ M → N ≤ f.places → (T U : Table) (own : ℕ → ℕ) →
     ((o : Outcome) × Weighs f M N bound T own o)
     × ((k : ℕ) → Weighs f M N bound T own (asks k) → (2 ≤ k) × (k ≤ M) × ((o : Outcome) × Settles f M N bound T U own o))
+    × ((o : Outcome) × Concludes (Weighs f M N bound T own) (Settles f M N bound T U own) o)
+
+-- The lead of a page is the lowest station of its largest group: top finds the lowest of 1 .. k at which e is greatest.
+abbrev pub Leading : Type 0
+Leading = (e : ℕ → ℕ) (k : ℕ) → 1 ≤ k → Lowest k (λ s. (t : ℕ) → Station k t → e t ≤ e s) (top e k)
 
 -- Differences to be relied on that add up for any three stations in order add up in every order.
 abbrev pub Additive : Type 0
