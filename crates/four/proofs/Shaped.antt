@@ -1,5 +1,5 @@
 -- From the shape of the suspect pairs to the differences that are relied on.
-use Rattle.std.proofs.Common.{◌≡◌, ℕ, ◌≤◌, Some, refl, subst, arith}
+use Rattle.std.proofs.Common.{◌≡◌, ℕ, ◌≤◌, Some, refl, sym, ap, ◌∙◌, subst, arith}
 use Rattle.std.specs.Option.{unwrap_or}
 use Rattle.field.specs.Field.{Ops}
 use Rattle.scheme.specs.Farm.{Table}
@@ -14,7 +14,8 @@ use Rattle.pairs.specs.Doubts.{Shape}
 use Rattle.pairs.specs.Held.{gaps_in}
 use Rattle.pairs.specs.Suspects.{SuspectIn}
 use Rattle.pairs.specs.Solving.{PairsSolved}
-use Rattle.four.specs.Relied.{relied, doubted}
+use Rattle.four.specs.declared.relied.Relied.{Relied}
+use Rattle.four.specs.Relied.{relied, doubted, Relies}
 
 module _ (f : Ops) (M N bound : ℕ) (T : Table) (g : PairGaps) (solved : PairsSolved f M N bound T g) where
   -- the shape that is found is that for M stations
@@ -65,3 +66,23 @@ station_from g TwoApart x i e = absurd (cc)
 station_from g Nobody x i e = absurd (cc)
 station_from g (Triangle a b c m) x i e = absurd (cc)
 station_from g (Station k) x i e = let same : k ≡ i = cc in omega (arith, x.1.0)
+
+-- by what is relied on
+module _ (f : Ops) (M N bound : ℕ) (T : Table) (g : PairGaps) (solved : PairsSolved f M N bound T g) (r : Relied) (x : Relies g (Some r)) where
+  pub known_relied : 4 ≤ M → Known f M N bound T (relied f r.doubt (gaps_in f r.gaps.now)) (unwrap_or (doubted r.doubt) 0)
+  known_relied four =
+      subst (λ (h : PairGaps). Known f M N bound T (relied f r.doubt (gaps_in f h)) (unwrap_or (doubted r.doubt) 0)) (sym x.0)
+      (known_by_sums f M N bound T g solved four r.doubt x.1 x.2)
+
+  pub station_relied : (i : ℕ) → doubted r.doubt ≡ Some i → 1 ≤ i
+  station_relied = station_from g r.doubt x.1
+
+  -- where a station is in doubt, as they are held
+  pub as_held : (i : ℕ) → doubted r.doubt ≡ Some i → relied f r.doubt (gaps_in f r.gaps.now) ≡ gaps_in f g
+  as_held i is = by r.doubt is ∙ ap (gaps_in f) x.0
+    where
+      by : (d : Doubt) → doubted d ≡ Some i → relied f d (gaps_in f r.gaps.now) ≡ gaps_in f r.gaps.now
+      by TwoApart e = absurd cc
+      by Nobody e = absurd cc
+      by (Triangle a b c m) e = absurd cc
+      by (Station k) e = refl

@@ -4,3 +4,4 @@ pub mod Filling
 pub mod Relied
 pub mod Weighed
 pub mod Outcomes
+pub mod Leads

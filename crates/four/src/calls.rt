@@ -1,68 +1,43 @@
-// Weighing and settling four stations and more, on the rows of a lent tally.
-ghost use Rattle.std.specs.Prelude.{◌≡◌, ◌≤◌, length, MatchResult};
-ghost use Rattle.refusal.specs.Rules.{Refused, Accepted};
+// Weighing and settling four stations and more, on the rows of a lent tally and the solved differences of their pairs.
+ghost use Rattle.std.specs.Prelude.{◌≡◌, ◌≤◌, length};
+ghost use Rattle.field.specs.Field.{page_limit};
+ghost use Rattle.refusal.specs.Rules.{Within};
 ghost use Rattle.scheme.specs.Four.{asked};
-ghost use Rattle.four.specs.Outcomes.{four_stations, WeighedFour, SettledFour};
+ghost use Rattle.tally.specs.Rows.{sum_in, tally_size};
+ghost use Rattle.pairs.specs.Solving.{PairsSolved};
+ghost use Rattle.four.specs.Outcomes.{WeighedFour, SettledFour};
 
 use crate::settling::settle_aside;
 use crate::weighing::{Weighing, weigh_rows};
 use field::Field;
-use refusal::{Limit, Refusal};
+use pairs::PairGaps;
 use tally::{Farm, Outcome};
 
-// What the first sums say. Refused: the number of stations, of pages, the bound, a tally that is too short; the tally is then what it was.
-pub fn weigh_four<F: Field>(
-    stations: usize,
-    pages: usize,
-    bound: usize,
-    tally: &mut [u32],
-) -> Result<Outcome, Refusal>
-    ensures { MatchResult result
-        (λ outcome. Accepted (four_stations F.Field.ops stations pages bound (length tally.old))
-        × WeighedFour F.Field.ops stations pages bound tally.old tally.new outcome)
-        (λ refusal. Refused (four_stations F.Field.ops stations pages bound (length tally.old)) refusal × (tally.new ≡ tally.old)) }
+/// What the first sums say: it is over, a page is split, the rows are filled, or a station is to be asked again.
+pub fn weigh_four<F: Field>(farm: &Farm, gaps: &PairGaps, tally: &mut [u32]) -> Outcome
+    requires least { 4 ≤ farm.now.stations }
+    requires room { tally_size farm.now.stations farm.now.pages ≤ length tally.old }
+    requires solved { PairsSolved F.Field.ops farm.now.stations farm.now.pages farm.now.bound (sum_in tally.old farm.now.pages) gaps.now }
+    ensures { WeighedFour F.Field.ops farm.now.stations farm.now.pages farm.now.bound tally.old tally.new result }
 {
-    let farm = accept::<F>(stations, pages, bound, tally)?;
-    match weigh_rows(&farm, tally) {
-        Weighing::Ended(outcome) => Ok(outcome),
-        Weighing::Doubted { aside, .. } => Ok(Outcome::Asks(asked_again(aside))),
+    match weigh_rows::<F>(farm, gaps, tally) {
+        Weighing::Ended(outcome) => outcome,
+        Weighing::Doubted(aside) => Outcome::Asks(asked_again(aside)),
     }
 }
 
-// What the first sums say and, where a station is asked again, all its sums. Refused as weighing is.
-pub fn settle_four<F: Field>(
-    stations: usize,
-    pages: usize,
-    bound: usize,
-    tally: &mut [u32],
-) -> Result<Outcome, Refusal>
-    ensures { MatchResult result
-        (λ outcome. Accepted (four_stations F.Field.ops stations pages bound (length tally.old))
-        × SettledFour F.Field.ops stations pages bound tally.old tally.new outcome)
-        (λ refusal. Refused (four_stations F.Field.ops stations pages bound (length tally.old)) refusal × (tally.new ≡ tally.old)) }
+/// What the first sums say and, where a station is asked again, all its sums.
+pub fn settle_four<F: Field>(farm: &Farm, gaps: &PairGaps, tally: &mut [u32]) -> Outcome
+    requires least { 4 ≤ farm.now.stations }
+    requires narrow { Within 1 (page_limit F.Field.ops) farm.now.pages }
+    requires room { tally_size farm.now.stations farm.now.pages ≤ length tally.old }
+    requires solved { PairsSolved F.Field.ops farm.now.stations farm.now.pages farm.now.bound (sum_in tally.old farm.now.pages) gaps.now }
+    ensures { SettledFour F.Field.ops farm.now.stations farm.now.pages farm.now.bound tally.old tally.new result }
 {
-    let farm = accept::<F>(stations, pages, bound, tally)?;
-    match weigh_rows(&farm, tally) {
-        Weighing::Ended(outcome) => Ok(outcome),
-        Weighing::Doubted { relied, aside } => Ok(settle_aside(&farm, &relied, aside, tally)),
+    match weigh_rows::<F>(farm, gaps, tally) {
+        Weighing::Ended(outcome) => outcome,
+        Weighing::Doubted(aside) => settle_aside::<F, _>(farm, gaps, aside, tally),
     }
-}
-
-fn accept<F: Field>(
-    stations: usize,
-    pages: usize,
-    bound: usize,
-    tally: &[u32],
-) -> Result<Farm<F>, Refusal>
-    ensures { MatchResult result
-        (λ farm. Accepted (four_stations F.Field.ops stations pages bound (length tally.now))
-        × (farm.stations ≡ stations) × (farm.pages ≡ pages) × (farm.bound ≡ bound))
-        (Refused (four_stations F.Field.ops stations pages bound (length tally.now))) }
-{
-    if stations < 4 {
-        return Err(Refusal::Size(Limit::Stations));
-    }
-    Farm::judged(stations, pages, bound, tally)
 }
 
 // Who is asked again where this station is in doubt: station 1 is the shop's own.

@@ -8,7 +8,7 @@ use field::Field;
 use tally::{Farm, put_row};
 
 // Makes each row but row 1 what row 1 is minus the difference of row 1 and it.
-pub(crate) fn fill_rows<F: Field, G: RowGaps<F>>(farm: &Farm<F>, gaps: &G, tally: &mut [u32])
+pub(crate) fn fill_rows<F: Field, G: RowGaps<F>>(farm: &Farm, gaps: &G, tally: &mut [u32])
     requires { tally_size farm.now.stations farm.now.pages ≤ length tally.old }
     ensures { Filled farm.now.stations farm.now.pages tally.old tally.new
         (row_from_first F.Field.ops (signature_in tally.old farm.now.pages 1) (G.RowGaps.gaps gaps.now)) }

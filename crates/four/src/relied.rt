@@ -8,14 +8,14 @@ use crate::gaps::RowGaps;
 use field::Field;
 use pairs::{Doubt, PairGaps};
 
-// The solved differences of all pairs, and the shape of the suspect ones.
-#[derive(Drop)]
-pub(crate) struct Relied {
-    pub(crate) gaps: PairGaps,
+// The solved differences of all pairs, lent, and the shape of the suspect ones.
+#[derive(Clone, Copy)]
+pub(crate) struct Relied<'a> {
+    pub(crate) gaps: &'a PairGaps,
     pub(crate) doubt: Doubt,
 }
 
-impl Relied {
+impl<'a> Relied<'a> {
     // The station in doubt, if there is one.
     pub(crate) fn aside(&self) -> Option<usize>
         ensures { result ≡ doubted self.now.doubt }
@@ -27,8 +27,8 @@ impl Relied {
     }
 }
 
-impl<F: Field> RowGaps<F> for Relied {
-    ghost gaps = { λ x. relied F.Field.ops x.doubt (gaps_in F.Field.ops x.gaps) };
+impl<'a, F: Field> RowGaps<F> for Relied<'a> {
+    ghost gaps = { λ x. relied F.Field.ops x.doubt (gaps_in F.Field.ops x.gaps.now) };
 
     fn gap(&self, s: usize, t: usize, page: usize) -> u32 {
         match self.doubt {

@@ -1,32 +1,43 @@
--- From what is solved of one pair's values to what is answered of the pair.
-use Rattle.std.proofs.Common.{◌≡◌, ℕ, ◌+◌, ◌<◌, ◌≤◌, List, length, get_or, take, length-take-le, sym, subst, inl, inr}
-use Rattle.field.specs.Field.{Ops, Laws}
+-- From what solving answers of the first values of an array to what is answered of a difference.
+use Rattle.std.proofs.Common.{◌≡◌, ℕ, ◌+◌, ◌-◌, ◌<◌, ◌≤◌, List, length, get_or, take, length-take-le, get_or-take, Some, None, Option, sym, ap, subst, inl, inr, arith}
+use Rattle.std.proofs.lemmas.List.{get_or_past}
+use native.Mathlib.Decide.{dec_le}
+use Rattle.field.specs.Field.{Ops, Laws, page_limit}
+use Rattle.field.specs.Sums.{entry}
 use Rattle.refusal.specs.declared.Refusal.{Refusal}
-use Rattle.refusal.specs.Rules.{Refused, Accepted}
-use Rattle.solve.specs.Answer.{Solved}
+use Rattle.refusal.specs.Rules.{Within, Refused}
+use Rattle.solve.specs.declared.Entry.{Entry}
+use Rattle.solve.specs.Answer.{Answer}
 use Rattle.solve.specs.Solution.{Enough, solving}
-use Rattle.solve.proofs.Values.{list_solves, list_weighs, not_refused}
-use Rattle.scheme.specs.Farm.{Table}
-use Rattle.scheme.specs.Differences.{gap}
-use Rattle.pairs.specs.declared.pair_gap.PairGap.{PairGap}
-use Rattle.pairs.specs.Difference.{solving_pair, DifferenceOf}
+use Rattle.solve.proofs.Values.{list_solves, list_weighs, unsolved}
+use Rattle.pairs.specs.Difference.{AnsweredBy}
 
 -- the first J values are handed over
-module _ {f : Ops} (l : Laws f) (N w J : ℕ) (T : Table) (s t : ℕ) (values : List ℕ) (room : J ≤ length values)
-    (are : (k : ℕ) → k < J → get_or values k 0 ≡ gap f T s t (k + 1)) where
-  pub accepted : Accepted (solving f N w (take J values)) → Accepted (solving_pair f N w J)
-  accepted x = (x.0, (subst (Enough N w) (length-take-le J values room) x.1.0, tt))
+module _ (f : Ops) (N w J : ℕ) (values : List ℕ) (room : J ≤ length values) where
+  long : length (take J values) ≡ J
+  long = length-take-le J values room
 
-  -- differences are codes, and these are not refused
-  pub refused : (r : Refusal) → Refused (solving f N w (take J values)) r → Refused (solving_pair f N w J) r
-  refused r (inl due) = inl due
-  refused r (inr (pages, inl due)) = inr (pages, inl ((λ enough. due.0 (subst (Enough N w) (sym (length-take-le J values room)) enough)), due.1, due.2))
-  refused r (inr (pages, inr (enough, rest))) =
-      absurd (not_refused f N w J values (gap f T s t) room are l pages.0 pages.1 (subst (Enough N w) (length-take-le J values room) enough) (λ j. l.minus_code _ _) r
-      (inr (pages, inr (enough, rest))))
+  are : (i : ℕ) → i < J → get_or values i 0 ≡ entry values (i + 1)
+  are i lt = ap (λ k. get_or values k 0) (let e : i ≡ i + 1 - 1 = omega arith in e)
 
-  pub difference : (x : PairGap) → Solved f N w (take J values) x.weight x.list → DifferenceOf f N w J T s t x
-  difference x h = record {
-    solves = list_solves f N w J values (gap f T s t) room are x.weight x.list h;
-    weighs = list_weighs f N w J values (gap f T s t) room are x.weight x.list h;
+  -- codes are not refused
+  pub never : Laws f → Within 1 (page_limit f) N → Enough N w J → ((k : ℕ) → k < J → get_or values k 0 < f.size) → (r : Refusal) →
+      Refused (solving f N w (take J values)) r → ⊥
+  never l narrow enough code r (inl x) = x.0 narrow
+  never l narrow enough code r (inr (_, inl x)) = x.0 (subst (Enough N w) (sym long) enough)
+  never l narrow enough code r (inr (_, inr (_, inl x))) = no_code x.1.0 x.1.1
+    where
+      no_code : {j : ℕ} → 1 ≤ j → f.size ≤ entry (take J values) j → ⊥
+      no_code {j} b big = elim (dec_le j J) [
+        | yes k ↦ omega (arith, get_or-take J values (j - 1) 0 (omega arith), code (j - 1) (omega arith))
+        | no k ↦ (let n = long in omega (arith, get_or_past (take J values) (j - 1) 0 (omega arith), l.size_least))
+      ]
+  never l narrow enough code r (inr (_, inr (_, inr x))) = x.1
+
+  pub answered : (before after : List Entry) (o : Option ℕ) → Answer f N w (take J values) before after o → AnsweredBy f N w J (entry values) o after
+  answered before after (Some m) h = record {
+    listed = h.listed;
+    solves = list_solves f N w J values (entry values) room are m after h;
+    weighs = list_weighs f N w J values (entry values) room are m after h;
   }
+  answered before after None h = unsolved f N w J values (entry values) room are h.0

@@ -7,3 +7,6 @@ pub mod Shapes
 pub mod Standing
 pub mod Suspecting
 pub mod Told
+pub mod Places
+pub mod RowSolved
+pub mod Gone

@@ -4,15 +4,15 @@
 mod difference;
 mod doubt;
 mod held;
-mod pair_gap;
 mod pair_gaps;
 mod searching;
 mod seeking;
 mod solving;
+mod subtracting;
 mod suspects;
 
-pub use difference::solve_pair;
+pub use difference::Difference;
 pub use doubt::Doubt;
-pub use pair_gap::PairGap;
 pub use pair_gaps::PairGaps;
-pub use solving::solve_pairs;
+pub use solving::{solve_pair, solve_pairs, solve_sums};
+pub use subtracting::put_minus;

@@ -8,10 +8,6 @@ use Rattle.tally.specs.Rows.{Filled, tally_size}
 use Rattle.tally.specs.declared.outcome.Outcome.{Outcome}
 use Rattle.tally.specs.declared.outcome.Outcome.TheVariants.{Over, Split, Filled as RowsFilled, Asks}
 
--- a number of stations that no farm has is refused
-abbrev pub station_range : ℕ → List Rule
-station_range M = unless (Within 3 8 M) 1 2 ∷ []
-
 -- the number of stations, of pages, then the bound
 abbrev pub farm_range : Ops → (M N bound : ℕ) → List Rule
 farm_range f M N bound = unless (Within 3 8 M) 1 2 ∷ unless (Within 1 (page_limit f) N) 1 3 ∷ unless (Within 1 64 bound) 1 4 ∷ []

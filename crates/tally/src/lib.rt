@@ -9,7 +9,7 @@ mod places;
 mod row;
 mod rows;
 
-pub use farm::{Farm, accept_stations};
+pub use farm::Farm;
 pub use listing::list_bad;
 pub use outcome::Outcome;
 pub use places::{SUM_COUNT, put_signature, put_sum};

@@ -1,3 +1,5 @@
 pub mod Lightest
+pub mod BySums
+pub mod Anew
 pub mod Filling
 pub mod Ended

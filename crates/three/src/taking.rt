@@ -1,31 +1,45 @@
-// Taking the pair of stations whose difference weighs least.
+// Taking the pair of three stations whose difference weighs least.
 ghost use Rattle.std.specs.Prelude.{◌≡◌};
-ghost use Rattle.tally.specs.Rows;
 ghost use Rattle.three.specs.Pairs;
-ghost use Rattle.three.specs.Pairs.{TakenFrom};
+ghost use Rattle.three.specs.Pairs.{WeighedOf, Lightest};
 
-use crate::counts::first_sums;
-use crate::difference::{Difference, solve_difference};
-use field::Field;
-use tally::Farm;
+use pairs::PairGaps;
 
-// Of the solved differences of {1,2}, {1,3} and {2,3} the one of least weight, and of equal ones the first.
-pub(crate) fn take_pair<F: Field>(farm: &Farm<F>, tally: &[u32]) -> Option<Difference>
-    ensures { TakenFrom F.Field.ops farm.now.pages farm.now.bound (Rows.sum_in tally.now farm.now.pages) result }
+// Two stations, and the weight of their difference.
+#[derive(Clone, Copy)]
+pub(crate) struct TakenPair {
+    pub first: usize,
+    pub second: usize,
+    pub weight: usize,
+}
+
+// Of {1,2}, {1,3} and {2,3} the solved pair of least weight, and of equal ones the first.
+pub(crate) fn take_pair(gaps: &PairGaps) -> Option<TakenPair>
+    ensures { Lightest gaps.now result }
 {
-    let count = first_sums(farm);
-    let of_two = solve_difference::<F>(farm, tally, 1, 2, count, count / 2);
-    let of_three = solve_difference::<F>(farm, tally, 1, 3, count, count / 2);
-    let others = solve_difference::<F>(farm, tally, 2, 3, count, count / 2);
+    let of_two = weighed(gaps, 1, 2);
+    let of_three = weighed(gaps, 1, 3);
+    let others = weighed(gaps, 2, 3);
     lighter(lighter(of_two, of_three), others)
 }
 
+fn weighed(gaps: &PairGaps, first: usize, second: usize) -> Option<TakenPair>
+    ensures { WeighedOf gaps.now first second result }
+{
+    let weight = gaps.weight(first, second)?;
+    Some(TakenPair {
+        first,
+        second,
+        weight,
+    })
+}
+
 // The one of less weight, and of equal ones the first.
-fn lighter(first: Option<Difference>, second: Option<Difference>) -> Option<Difference>
+fn lighter(first: Option<TakenPair>, second: Option<TakenPair>) -> Option<TakenPair>
     ensures { result ≡ Pairs.lighter first second }
 {
     match (first, second) {
-        (Some(one), Some(other)) if other.gap.weight < one.gap.weight => Some(other),
+        (Some(one), Some(other)) if other.weight < one.weight => Some(other),
         (Some(one), _) => Some(one),
         (None, other) => other,
     }

@@ -1,7 +1,8 @@
 -- What weighing and settling the rows of a tally come to, by the sums and the first row that it held before.
-use Rattle.std.specs.Prelude.{ℕ, ◌⊎◌, List}
+use Rattle.std.specs.Prelude.{ℕ, List}
 use Rattle.field.specs.Field.{Ops}
 use Rattle.scheme.specs.Askings as rules
+use Rattle.scheme.specs.Ending.{Concludes}
 use Rattle.scheme.specs.Weighing as weighing
 use Rattle.scheme.specs.Settling as settling
 use Rattle.tally.specs.Rows.{sum_in, signature_in}
@@ -15,12 +16,9 @@ module _ (f : Ops) (M N bound : ℕ) (before after : List ℕ) where
   abbrev pub Settles : rules.Outcome → Type 0
   Settles = settling.Settles f M N bound (sum_in before N) (sum_in before N) (signature_in before N 1)
 
-  -- what weighing comes to where it asks nobody again, else what settling does
+  -- worked out anew: what weighing comes to, or where it asks a station again what settling does. Of these there is exactly one
   abbrev pub Comes : rules.Outcome → Type 0
-  Comes rules.over = Weighs rules.over ⊎ Settles rules.over
-  Comes (rules.split n) = Weighs (rules.split n) ⊎ Settles (rules.split n)
-  Comes (rules.filled R) = Weighs (rules.filled R) ⊎ Settles (rules.filled R)
-  Comes (rules.asks k) = ⊥
+  Comes = Concludes Weighs Settles
 
   abbrev pub Weighed : Outcome → Type 0
   Weighed = Ends M N Weighs before after

@@ -2,6 +2,8 @@
 #![tactic(auto)]
 
 mod calls;
+mod farms;
 
 pub use calls::{settle, weigh};
+pub use farms::{settle_farm, weigh_farm};
 pub use tally::Outcome;

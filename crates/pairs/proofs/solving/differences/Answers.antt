@@ -2,7 +2,7 @@ use Rattle.std.proofs.Common.{◌+◌, rules, refl, arith}
 use Rattle.scheme.specs.Differences.{gap}
 use Rattle.tally.specs.Rows.{sum_in}
 use Rattle.pairs.proofs.Made.{made}
-use Rattle.pairs.proofs.difference.differences.Goals as goal
+use Rattle.pairs.proofs.solving.differences.Goals as goal
 
 pub returns-clause-gaps : goal.returns-clause-gaps
 returns-clause-gaps g c k lt =
