@@ -13,16 +13,16 @@ use Rattle.calls.specs.Questions.{PlainTerms}
 use Rattle.calls.specs.Closing.{WeighEnds}
 use Rattle.calls.proofs.FirstSums.{first_sums_more}
 
-module _ (f : Ops) (laws : Laws f) (spread : Spread f) (t : Terms) (narrow : t.pages ≤ page_limit f) (tally : List ℕ) (k : ℕ) where
-  pub asked_within : Weighs f t.stations t.pages t.bound (sum_in tally t.pages) (signature_in tally t.pages 1) (asks k) → Within 2 t.stations k
+module _ (f : Ops) (laws : Laws f) (spread : Spread f) (t : Terms) (narrow : t.farm.pages ≤ page_limit f) (tally : List ℕ) (k : ℕ) where
+  pub asked_within : Weighs f t.farm.stations t.farm.pages t.farm.bound (sum_in tally t.farm.pages) (signature_in tally t.farm.pages 1) (asks k) → Within 2 t.farm.stations k
   asked_within weighs =
       let total =
-      some_outcome f laws spread t.stations t.pages t.bound t.stations_in.0 (omega (arith, narrow)) (sum_in tally t.pages) (sum_in tally t.pages) (signature_in tally t.pages 1)
+      some_outcome f laws spread t.farm.stations t.farm.pages t.farm.bound t.farm.stations_in.0 (omega (arith, narrow)) (sum_in tally t.farm.pages) (sum_in tally t.farm.pages) (signature_in tally t.farm.pages 1)
       in
       let asked = total.1 k weighs in
       (asked.0, asked.1)
 
-  pub asks_one : WeighEnds f t tally (asks k) → (¬ PlainTerms t) × Within 2 t.stations k
+  pub asks_one : WeighEnds f t tally (asks k) → (¬ PlainTerms t) × Within 2 t.farm.stations k
   asks_one (inl at_hand) = absurd (cc at_hand.1)
   asks_one (inr weighs) = (weighs.0, asked_within weighs.1)
 

@@ -36,7 +36,7 @@ open_cleared f number M N bound own room a = record {
 
 pub record SlipCleared (b : Book) (only : Option ℕ) (s room : ℕ) : Type 0 where
   pub room_for : 4 ≤ room
-  pub station : Within 2 b.terms.stations s
+  pub station : Within 2 b.terms.farm.stations s
   pub concerned : Concerns only s
   pub free : standing b s ≡ Free
   pub few : b.counts.handed < 2 ^ 32 - 1
@@ -51,7 +51,7 @@ slip_cleared b only s room a = record {
 }
 
 pub record TakeCleared (f : Ops) (b : Book) (q : Request) (words : List ℕ) (room : ℕ) : Type 0 where
-  pub room_for : tally_size b.terms.stations b.terms.pages ≤ room
+  pub room_for : tally_size b.terms.farm.stations b.terms.farm.pages ≤ room
   pub here : OutHere b q
   pub asked : standing b q.station ≡ Out
   pub reads : Accepted (reading_reply f q words)
@@ -68,9 +68,9 @@ pub return_cleared : (b : Book) (q : Request) → Accepted (returning b q) → O
 return_cleared b q a = a.0
 
 pub record CloseCleared (b : Book) (room : ℕ) : Type 0 where
-  pub room_for : tally_size b.terms.stations b.terms.pages ≤ room
+  pub room_for : tally_size b.terms.farm.stations b.terms.farm.pages ≤ room
   pub none_out : (s : ℕ) → ¬ StillOut b s
-  pub done : (s : ℕ) → Within 2 b.terms.stations s → standing b s ≡ Done
+  pub done : (s : ℕ) → Within 2 b.terms.farm.stations s → standing b s ≡ Done
 
 pub close_cleared : (b : Book) (room : ℕ) → Accepted (closing b room) → CloseCleared b room
 close_cleared b room a = record {
@@ -80,9 +80,9 @@ close_cleared b room a = record {
 }
 
 pub record ListCleared (t : Terms) (found : Option Verdict) (s : ℕ) (tally : List ℕ) : Type 0 where
-  pub room_for : tally_size t.stations t.pages ≤ length tally
+  pub room_for : tally_size t.farm.stations t.farm.pages ≤ length tally
   pub report : found ≡ Some Report
-  pub station : Within 1 t.stations s
+  pub station : Within 1 t.farm.stations s
 
 pub list_cleared : (t : Terms) (found : Option Verdict) (s : ℕ) (tally : List ℕ) (room : ℕ) → Accepted (listing t found s tally room) → ListCleared t found s tally
 list_cleared t found s tally room a = record { room_for = a.0; report = a.1.0; station = a.1.1.0 }

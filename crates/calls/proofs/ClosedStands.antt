@@ -37,25 +37,25 @@ settled_row f M N bound T U own R (inr x) n p = three_row f N bound T U own R x.
 abbrev pub KeepsRows : Terms → Table → Outcome → Type 0
 KeepsRows t P over = Unit {0}
 KeepsRows t P (split n) = Unit {0}
-KeepsRows t P (filled R) = ((n : ℕ) → Page t.pages n → R 1 n ≡ P 1 n) × ((¬ PlainTerms t) ⊎ Same t.stations t.pages R P)
+KeepsRows t P (filled R) = ((n : ℕ) → Page t.farm.pages n → R 1 n ≡ P 1 n) × ((¬ PlainTerms t) ⊎ Same t.farm.stations t.farm.pages R P)
 KeepsRows t P (asks k) = Unit {0}
 
-pub weigh_keeps : (f : Ops) (t : Terms) (tally : List ℕ) (o : Outcome) → WeighEnds f t tally o → KeepsRows t (signature_in tally t.pages) o
+pub weigh_keeps : (f : Ops) (t : Terms) (tally : List ℕ) (o : Outcome) → WeighEnds f t tally o → KeepsRows t (signature_in tally t.farm.pages) o
 weigh_keeps f t tally o (inl x) =
-    subst (KeepsRows t (signature_in tally t.pages)) (sym x.1) ((λ n p. x.3 1 n (omega (arith, t.stations_in.0)) p), inr x.3)
+    subst (KeepsRows t (signature_in tally t.farm.pages)) (sym x.1) ((λ n p. x.3 1 n (omega (arith, t.farm.stations_in.0)) p), inr x.3)
 weigh_keeps f t tally over (inr x) = tt
 weigh_keeps f t tally (split n) (inr x) = tt
 weigh_keeps f t tally (filled R) (inr (not, w)) =
-    (weighed_row f t.stations t.pages t.bound (sum_in tally t.pages) (signature_in tally t.pages 1) R w, inl not)
+    (weighed_row f t.farm.stations t.farm.pages t.farm.bound (sum_in tally t.farm.pages) (signature_in tally t.farm.pages 1) R w, inl not)
 weigh_keeps f t tally (asks k) (inr x) = tt
 
-pub settle_keeps : (f : Ops) (t : Terms) (tally : List ℕ) → ¬ PlainTerms t → (o : Outcome) → SettleEnds f t tally o → KeepsRows t (signature_in tally t.pages) o
+pub settle_keeps : (f : Ops) (t : Terms) (tally : List ℕ) → ¬ PlainTerms t → (o : Outcome) → SettleEnds f t tally o → KeepsRows t (signature_in tally t.farm.pages) o
 settle_keeps f t tally not over x = tt
 settle_keeps f t tally not (split n) x = tt
 settle_keeps f t tally not (filled R) (inl w) =
-    (weighed_row f t.stations t.pages t.bound (sum_in tally t.pages) (signature_in tally t.pages 1) R w, inl not)
+    (weighed_row f t.farm.stations t.farm.pages t.farm.bound (sum_in tally t.farm.pages) (signature_in tally t.farm.pages 1) R w, inl not)
 settle_keeps f t tally not (filled R) (inr x) =
-    (settled_row f t.stations t.pages t.bound (sum_in tally t.pages) (sum_in tally t.pages) (signature_in tally t.pages 1) R x, inl not)
+    (settled_row f t.farm.stations t.farm.pages t.farm.bound (sum_in tally t.farm.pages) (sum_in tally t.farm.pages) (signature_in tally t.farm.pages 1) R x.1, inl not)
 settle_keeps f t tally not (asks k) x = tt
 
 -- signatures are asked for in a plain check alone
@@ -75,25 +75,25 @@ signatures_plain t (closed (BySettling k) v) s i (inl d) = first_plain t i d
 signatures_plain t (closed (BySettling k) v) s i (inr d) = absurd (second_sums t k s i d)
 
 module _ (f : Ops) (own : List ℕ) (t : Terms) (ks : List Call)
-    (due : (a : Asked) (s i v : ℕ) → Replied ks a s i v → Within 2 t.stations s × Index a t.pages i)
+    (due : (a : Asked) (s i v : ℕ) → Replied ks a s i v → Within 2 t.farm.stations s × Index a t.farm.pages i)
     (plain : (s n v : ℕ) → Replied ks Signatures s n v → PlainTerms t)
     (before after : List ℕ) (stands : Stands f own t ks before) where
-  module _ (R : Table) (x : Filled t.stations t.pages before after R) (keeps : KeepsRows t (signature_in before t.pages) (filled R)) where
-    sum_kept : (s j : ℕ) → 1 ≤ s → Page 128 j → sum_in after t.pages s j ≡ sum_in before t.pages s j
+  module _ (R : Table) (x : Filled t.farm.stations t.farm.pages before after R) (keeps : KeepsRows t (signature_in before t.farm.pages) (filled R)) where
+    sum_kept : (s j : ℕ) → 1 ≤ s → Page 128 j → sum_in after t.farm.pages s j ≡ sum_in before t.farm.pages s j
     sum_kept s j lo p =
-        x.rest (sum_place t.pages s j) (λ r n st pg. places_apart Sums Signatures t.pages s r j n lo st.0 p pg (λ is kind. absurd (cc kind)))
+        x.rest (sum_place t.farm.pages s j) (λ r n st pg. places_apart Sums Signatures t.farm.pages s r j n lo st.0 p pg (λ is kind. absurd (cc kind)))
 
     filled_stands : Stands f own t ks after
     filled_stands = record {
       room = omega (arith, stands.room, x.size);
       told = record {
-        own_row = λ n p. x.rows 1 n (omega (arith, t.stations_in.0)) p ∙ keeps.0 n p ∙ stands.told.own_row n p;
-        own_sums = λ j p. sum_kept 1 j (omega arith) (omega (arith, p, t.bound_in.1)) ∙ stands.told.own_sums j p;
+        own_row = λ n p. x.rows 1 n (omega (arith, t.farm.stations_in.0)) p ∙ keeps.0 n p ∙ stands.told.own_row n p;
+        own_sums = λ j p. sum_kept 1 j (omega arith) (omega (arith, p, t.farm.bound_in.1)) ∙ stands.told.own_sums j p;
         sums = λ s j v r. let d = due Sums s j v r in sum_kept s j (omega (arith, d.0)) d.1 ∙ stands.told.sums s j v r;
         signatures = λ s n v r.
             let d = due Signatures s n v r in
-            let st : Within 1 t.stations s = omega (arith, d.0) in
-            let kept : R s n ≡ signature_in before t.pages s n = elim keeps.1 [ inl not ↦ absurd (not (plain s n v r)) | inr same ↦ same s n st d.1 ] in
+            let st : Within 1 t.farm.stations s = omega (arith, d.0) in
+            let kept : R s n ≡ signature_in before t.farm.pages s n = elim keeps.1 [ inl not ↦ absurd (not (plain s n v r)) | inr same ↦ same s n st d.1 ] in
             x.rows s n st d.1 ∙ kept ∙ stands.told.signatures s n v r;
       };
     }
@@ -101,8 +101,8 @@ module _ (f : Ops) (own : List ℕ) (t : Terms) (ks : List Call)
   same_tally : after ≡ before → Stands f own t ks after
   same_tally e = subst (Stands f own t ks) (sym e) stands
 
-  pub finds_stands : (Ends : Outcome → Type 0) → ((o : Outcome) → Ends o → KeepsRows t (signature_in before t.pages) o) → (v : Verdict)
-      → ClosesWith Ends t.stations t.pages before after v → Stands f own t ks after
+  pub finds_stands : (Ends : Outcome → Type 0) → ((o : Outcome) → Ends o → KeepsRows t (signature_in before t.farm.pages) o) → (v : Verdict)
+      → ClosesWith Ends t.farm.stations t.farm.pages before after v → Stands f own t ks after
   finds_stands Ends keeps Over x = same_tally x.1
   finds_stands Ends keeps (Split n) (inl x) = same_tally x.1
   finds_stands Ends keeps (Split n) (inr x) = filled_stands x.0 x.2 (keeps (filled x.0) x.1)

@@ -63,37 +63,37 @@ ends_more Said Says M N before after more outcome.Filled ends = (ends.0, more (f
 ends_more Said Says M N before after more (outcome.Asks k) ends = (more (asks k) ends.0, ends.1)
 
 module _ (f : Ops) (t : Terms) (before : List ℕ) where
-  pub plain_found : PlainTerms t → (v : Verdict) → ClosesOn t.stations t.pages before v → ClosesWith (WeighEnds f t before) t.stations t.pages before before v
+  pub plain_found : PlainTerms t → (v : Verdict) → ClosesOn t.farm.stations t.farm.pages before v → ClosesWith (WeighEnds f t before) t.farm.stations t.farm.pages before before v
   plain_found plain v closes =
-      let R : Table = signature_in before t.pages in
-      closes_filled (WeighEnds f t before) t.stations t.pages before before R (inl (R, refl, plain, λ s n a b. refl)) (rows_stay t.stations t.pages before) v closes
+      let R : Table = signature_in before t.farm.pages in
+      closes_filled (WeighEnds f t before) t.farm.stations t.farm.pages before before R (inl (R, refl, plain, λ s n a b. refl)) (rows_stay t.farm.stations t.farm.pages before) v closes
 
   module _ (after : List ℕ) where
-    pub weighing_asks : Laws f → Spread f → t.pages ≤ page_limit f → (o : Outcome) → Weighed f t.stations t.pages t.bound before after o
-        → (k : ℕ) → o ≡ outcome.Asks k → Within 2 t.stations k
+    pub weighing_asks : Laws f → Spread f → t.farm.pages ≤ page_limit f → (o : Outcome) → Weighed f t.farm.stations t.farm.pages t.farm.bound before after o
+        → (k : ℕ) → o ≡ outcome.Asks k → Within 2 t.farm.stations k
     weighing_asks laws spread narrow o weighed k is =
-        asked_within f laws spread t narrow before k (subst (Weighed f t.stations t.pages t.bound before after) is weighed).0
+        asked_within f laws spread t narrow before k (subst (Weighed f t.farm.stations t.farm.pages t.farm.bound before after) is weighed).0
 
-    pub weighed_found : Laws f → Spread f → t.pages ≤ page_limit f → ¬ PlainTerms t → (o : Outcome) (e : Ending)
-        → Weighed f t.stations t.pages t.bound before after o → EndsIn t.stations t.pages after o e → WeighedAs f t before after e
+    pub weighed_found : Laws f → Spread f → t.farm.pages ≤ page_limit f → ¬ PlainTerms t → (o : Outcome) (e : Ending)
+        → Weighed f t.farm.stations t.farm.pages t.farm.bound before after o → EndsIn t.farm.stations t.farm.pages after o e → WeighedAs f t before after e
     weighed_found laws spread narrow not_plain o e weighed is = with_station e found
       where
-        found : Found (WeighEnds f t before) t.stations t.pages before after e
+        found : Found (WeighEnds f t before) t.farm.stations t.farm.pages before after e
         found =
-            ending_found (WeighEnds f t before) t.stations t.pages before after o e
-            (ends_more (Weighs f t.stations t.pages t.bound before before) (WeighEnds f t before) t.stations t.pages before after (λ o says. inr (not_plain, says)) o weighed) is
+            ending_found (WeighEnds f t before) t.farm.stations t.farm.pages before after o e
+            (ends_more (Weighs f t.farm.stations t.farm.pages t.farm.bound before before) (WeighEnds f t before) t.farm.stations t.farm.pages before after (λ o says. inr (not_plain, says)) o weighed) is
 
-        with_station : (e : Ending) → Found (WeighEnds f t before) t.stations t.pages before after e → WeighedAs f t before after e
+        with_station : (e : Ending) → Found (WeighEnds f t before) t.farm.stations t.farm.pages before after e → WeighedAs f t before after e
         with_station (Closes v) found = found
         with_station (Asks k) found = (found.0, found.1, (asks_one f laws spread t narrow before k found.0).1)
 
-    pub settled_found : (o : Outcome) (v : Verdict) → Settled f t.stations t.pages t.bound before after o → EndsIn t.stations t.pages after o (Closes v)
-        → ClosesWith (SettleEnds f t before) t.stations t.pages before after v
+    pub settled_found : (o : Outcome) (v : Verdict) → Settled f t.farm.stations t.farm.pages t.farm.bound before after o → EndsIn t.farm.stations t.farm.pages after o (Closes v)
+        → ClosesWith (SettleEnds f t before) t.farm.stations t.farm.pages before after v
     settled_found o v settled is =
-        ending_found (SettleEnds f t before) t.stations t.pages before after o (Closes v)
-        (ends_more (Comes f t.stations t.pages t.bound before after) (SettleEnds f t before) t.stations t.pages before after comes o settled) is
+        ending_found (SettleEnds f t before) t.farm.stations t.farm.pages before after o (Closes v)
+        (ends_more (Comes f t.farm.stations t.farm.pages t.farm.bound before after) (SettleEnds f t before) t.farm.stations t.farm.pages before after comes o settled) is
       where
-        comes : (o : rules.Outcome) → Comes f t.stations t.pages t.bound before after o → SettleEnds f t before o
+        comes : (o : rules.Outcome) → Comes f t.farm.stations t.farm.pages t.farm.bound before after o → SettleEnds f t before o
         comes rules.over x = x
         comes (rules.split n) x = x
         comes (rules.filled R) x = x

@@ -17,7 +17,7 @@ use Rattle.calls.proofs.TrueReports.{true_reports}
 -- what was found is right of any table that yields all that was told and has few strays
 pub replies_right : RepliesRight
 replies_right f laws spread own tally ks b g run last one P yields =
-    let T : Table = λ s. power_sum f b.terms.pages (P s) in
+    let T : Table = λ s. power_sum f b.terms.farm.pages (P s) in
     let judged = ((replies_judged f laws spread own tally ks b g run).2 last one).1 T P yields.told in
     (judged, λ few. true_reports f laws spread b.terms (shape_kept f laws spread own tally ks b g run).pages T P yields.codes (λ s j. refl) few last g judged)
 

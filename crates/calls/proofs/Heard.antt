@@ -42,9 +42,9 @@ module _ (ks more : List Call) (up : More ks more) where
   all_more t (closed (BySettling k) v) h = (first_more t h.0, replied_to_more Sums k _ _ h.1)
 
 pub record Heard (t : Terms) (q : Question) (xs : List Standing) (g : Stage) (ks : List Call) : Type 0 where
-  pub due : (a : Asked) (s i v : ℕ) → Replied ks a s i v → Within 2 t.stations s × AskedFor t g a s i
+  pub due : (a : Asked) (s i v : ℕ) → Replied ks a s i v → Within 2 t.farm.stations s × AskedFor t g a s i
   pub none : (s i v : ℕ) → AskedAt g s → reply_in (standing_of xs s) ≡ 0 → Within q.first q.last i → ¬ Replied ks q.asked s i v
-  pub heard : (s : ℕ) → Within 2 t.stations s → AskedAt g s → reply_in (standing_of xs s) ≡ 1 → RepliedTo ks q.asked s q.first q.last
+  pub heard : (s : ℕ) → Within 2 t.farm.stations s → AskedAt g s → reply_in (standing_of xs s) ≡ 1 → RepliedTo ks q.asked s q.first q.last
   pub ended : AllReplied ks t g
 
 -- what is asked for now
@@ -56,15 +56,15 @@ asked_now t q (second k) only o x a s i here is w = inr (here, is ∙ x.2.0, ome
 asked_now t q (closed way v) only o x a s i here is w = absurd o
 
 -- what is asked for may be
-first_index : (t : Terms) (a : Asked) (i : ℕ) → FirstAsked t a i → Index a t.pages i
-first_index t a i (inl x) = subst (λ a. Index a t.pages i) (sym x.1) x.2
+first_index : (t : Terms) (a : Asked) (i : ℕ) → FirstAsked t a i → Index a t.farm.pages i
+first_index t a i (inl x) = subst (λ a. Index a t.farm.pages i) (sym x.1) x.2
 first_index t a i (inr x) =
-    subst (λ a. Index a t.pages i) (sym x.1) (omega (arith, x.2, first_sums_between t.stations t.bound t.bound_in.0, t.bound_in.1))
+    subst (λ a. Index a t.farm.pages i) (sym x.1) (omega (arith, x.2, first_sums_between t.farm.stations t.farm.bound t.farm.bound_in.0, t.farm.bound_in.1))
 
-second_index : (t : Terms) (k : ℕ) (a : Asked) (s i : ℕ) → SecondAsked t k a s i → Index a t.pages i
-second_index t k a s i x = subst (λ a. Index a t.pages i) (sym x.1) (omega (arith, x.2, t.bound_in.1))
+second_index : (t : Terms) (k : ℕ) (a : Asked) (s i : ℕ) → SecondAsked t k a s i → Index a t.farm.pages i
+second_index t k a s i x = subst (λ a. Index a t.farm.pages i) (sym x.1) (omega (arith, x.2, t.farm.bound_in.1))
 
-pub due_index : (t : Terms) (g : Stage) (a : Asked) (s i : ℕ) → AskedFor t g a s i → Index a t.pages i
+pub due_index : (t : Terms) (g : Stage) (a : Asked) (s i : ℕ) → AskedFor t g a s i → Index a t.farm.pages i
 due_index t first a s i d = first_index t a i d
 due_index t (second k) a s i (inl d) = first_index t a i d
 due_index t (second k) a s i (inr d) = second_index t k a s i d
@@ -105,14 +105,14 @@ module _ (t : Terms) (q : Question) (g : Stage) where
     -- its reply is taken
     pub taken_heard : (only : Option ℕ) → AsksOnly g only → StageAsks t g q → (ks : List Call) (p : Slip) (words before after : List ℕ) (u : Unit {0})
         → (p.request.station ≡ s) × (p.request.asked ≡ q.asked) × (p.request.first ≡ q.first) × (p.request.last ≡ q.last)
-        → Within 2 t.stations s → AskedAt g s → x ≡ Took → Heard t q xs g ks → Heard t q ys g (take p words before (Ok u) after ∷ ks)
+        → Within 2 t.farm.stations s → AskedAt g s → x ≡ Took → Heard t q xs g ks → Heard t q ys g (take p words before (Ok u) after ∷ ks)
     taken_heard only o asks ks p words before after u same within here took h = record { due = due; none = none; heard = heard; ended = all_more ks now (λ a s i v. inr) t g h.ended }
       where
         now : List Call
         now = take p words before (Ok u) after ∷ ks
 
-        due : (a : Asked) (s i v : ℕ) → Replied now a s i v → Within 2 t.stations s × AskedFor t g a s i
-        due a y i v (inl r) = (subst (λ s. Within 2 t.stations s) (sym same.0 ∙ r.0) within, asked_now t q g only o asks a y i (subst (AskedAt g) (sym same.0 ∙ r.0) here) (sym r.1 ∙ same.1) (omega (arith, r.2, same.2, same.3)))
+        due : (a : Asked) (s i v : ℕ) → Replied now a s i v → Within 2 t.farm.stations s × AskedFor t g a s i
+        due a y i v (inl r) = (subst (λ s. Within 2 t.farm.stations s) (sym same.0 ∙ r.0) within, asked_now t q g only o asks a y i (subst (AskedAt g) (sym same.0 ∙ r.0) here) (sym r.1 ∙ same.1) (omega (arith, r.2, same.2, same.3)))
         due a y i v (inr r) = h.due a y i v r
 
         none : (y i v : ℕ) → AskedAt g y → reply_in (standing_of ys y) ≡ 0 → Within q.first q.last i → ¬ Replied now q.asked y i v
@@ -124,7 +124,7 @@ module _ (t : Terms) (q : Question) (g : Stage) where
           ]
         ]
 
-        heard : (y : ℕ) → Within 2 t.stations y → AskedAt g y → reply_in (standing_of ys y) ≡ 1 → RepliedTo now q.asked y q.first q.last
+        heard : (y : ℕ) → Within 2 t.farm.stations y → AskedAt g y → reply_in (standing_of ys y) ≡ 1 → RepliedTo now q.asked y q.first q.last
         heard y within asked r_in i w = elim (ℕ_discrete y s) [
           | yes e ↦ (value_of (slice_index (drop 4 words) (i - p.request.first)), inl (same.0 ∙ sym e, same.1, (omega (arith, w, same.2), omega (arith, w, same.3)), refl))
           | no d ↦

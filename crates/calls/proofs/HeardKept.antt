@@ -36,7 +36,7 @@ replied_as : (ks : List Call) (s : ℕ) {a a' : Asked} {from to from' to' : ℕ}
 replied_as ks s is lo up h i w = let x = h i (omega arith) in (x.0, subst (λ a. Replied ks a s i x.0) is x.1)
 
 -- all are done with the first asking
-pub firsts_replied : (t : Terms) (b : Book) (ks : List Call) → FirstAsks t b.question → ((s : ℕ) → Within 2 t.stations s → standing b s ≡ Done)
+pub firsts_replied : (t : Terms) (b : Book) (ks : List Call) → FirstAsks t b.question → ((s : ℕ) → Within 2 t.farm.stations s → standing b s ≡ Done)
     → Hears t b first ks → FirstReplied ks t
 firsts_replied t b ks (inl x) done h s w = inl (x.0, replied_as ks s x.1.0 x.1.1 x.1.2 (h.heard s w tt (ap reply_in (done s w))))
 firsts_replied t b ks (inr x) done h s w = inr (x.0, replied_as ks s x.1.0 x.1.1 x.1.2 (h.heard s w tt (ap reply_in (done s w))))
@@ -57,7 +57,7 @@ closed_heard way v asked all h = record {
 }
 
 -- who replies is asked
-pub asked_here : (f : Ops) (b : Book) (g : Stage) → Shape f b g → (s : ℕ) → Within 2 b.terms.stations s → ¬ (standing b s ≡ Done) → (only : Option ℕ)
+pub asked_here : (f : Ops) (b : Book) (g : Stage) → Shape f b g → (s : ℕ) → Within 2 b.terms.farm.stations s → ¬ (standing b s ≡ Done) → (only : Option ℕ)
     → AsksOnly g only → AskedAt g s
 asked_here f b first shape s w off only asked = tt
 asked_here f b (second k) shape s w off only asked = elim (ℕ_discrete k s) [
@@ -76,13 +76,13 @@ module _ (f : Ops) (l : Laws f) (spread : Spread f) (b : Book) (ks : List Call) 
   asked_now : (k : ℕ) (b' : Book) (t t' : List ℕ) → WeighAsks f b t k b' t' → Shape f b first → Hears b.terms b first ks → Hears b.terms b' (second k) ks
   asked_now k b' t t' x shape h = record { due = due; none = none; heard = heard; ended = firsts_replied b.terms b ks shape.question (all_done b (length t) x.accepted) h }
     where
-      asked : (¬ PlainTerms b.terms) × Within 2 b.terms.stations k
+      asked : (¬ PlainTerms b.terms) × Within 2 b.terms.farm.stations k
       asked = asks_one f l spread b.terms shape.pages.1 t k x.ends
 
       free : standing b' k ≡ Free
       free = standing_same b.standings k Free x.again.standings (place_inside b k asked.1)
 
-      due : (a : Asked) (s i v : ℕ) → Replied ks a s i v → Within 2 b.terms.stations s × AskedFor b.terms (second k) a s i
+      due : (a : Asked) (s i v : ℕ) → Replied ks a s i v → Within 2 b.terms.farm.stations s × AskedFor b.terms (second k) a s i
       due a s i v r = let d = h.due a s i v r in (d.0, inl d.1)
 
       none : (s i v : ℕ) → AskedAt (second k) s → reply_in (standing b' s) ≡ 0 → Within b'.question.first b'.question.last i → ¬ Replied ks b'.question.asked s i v
@@ -91,7 +91,7 @@ module _ (f : Ops) (l : Laws f) (spread : Spread f) (b : Book) (ks : List Call) 
         | inr y ↦ omega (arith, y.2, w, x.again.question.1)
       ]
 
-      heard : (s : ℕ) → Within 2 b.terms.stations s → AskedAt (second k) s → reply_in (standing b' s) ≡ 1
+      heard : (s : ℕ) → Within 2 b.terms.farm.stations s → AskedAt (second k) s → reply_in (standing b' s) ≡ 1
           → RepliedTo ks b'.question.asked s b'.question.first b'.question.last
       heard s w a r_in = absurd (omega (arith, r_in, ap (λ s. reply_in (standing b' s)) (sym a), ap reply_in free))
 

@@ -65,7 +65,7 @@ module _ (f : Ops) (l : Laws f) (spread : Spread f) (own : List ℕ) where
     still_judged (closed way v) only asked T P tally after j = absurd asked
 
     module _ (g : Stage) (h : Hears b.terms b g ks) where
-      due_here : (a : Asked) (s i v : ℕ) → Replied ks a s i v → Within 2 b.terms.stations s × Index a b.terms.pages i
+      due_here : (a : Asked) (s i v : ℕ) → Replied ks a s i v → Within 2 b.terms.farm.stations s × Index a b.terms.farm.pages i
       due_here a s i v r = let d = h.due a s i v r in (d.0, due_index b.terms g a s i d.1)
 
       plain_here : (s n v : ℕ) → Replied ks Signatures s n v → PlainTerms b.terms
@@ -102,9 +102,9 @@ module _ (f : Ops) (l : Laws f) (spread : Spread f) (own : List ℕ) where
               (weigh_keeps f b.terms t) v x.finds,
           tt,
           λ T P told. closes_as b.terms (WeighEnds f b.terms t) (WeighsBy f b.terms T P)
-              (weigh_as f own b.terms ks (sum_in t b.terms.pages) (signature_in t b.terms.pages) T P m.0.told told done) t t'
-              (λ w. m.1 (over_not_plain f b.terms (sum_in t b.terms.pages) (signature_in t b.terms.pages) w))
-              (λ n w. m.1 (split_not_plain f b.terms (sum_in t b.terms.pages) (signature_in t b.terms.pages) n w)) v x.finds,
+              (weigh_as f own b.terms ks (sum_in t b.terms.farm.pages) (signature_in t b.terms.farm.pages) T P m.0.told told done) t t'
+              (λ w. m.1 (over_not_plain f b.terms (sum_in t b.terms.farm.pages) (signature_in t b.terms.farm.pages) w))
+              (λ n w. m.1 (split_not_plain f b.terms (sum_in t b.terms.farm.pages) (signature_in t b.terms.farm.pages) n w)) v x.finds,
         )
     step_judged tally (weigh_asks {k = k} {t = t} {t' = t'} x) shape h before last (is, one) =
         let m = before t one in
@@ -112,7 +112,7 @@ module _ (f : Ops) (l : Laws f) (spread : Spread f) (own : List ℕ) where
         quiet (second k) _ t last (λ a s i v r. r) (is ∙ x.written) (
           m.0,
           m.1 (asks_one f l spread b.terms shape.pages.1 t k x.ends).0,
-          λ T P told. asks_as f own b.terms ks (sum_in t b.terms.pages) (signature_in t b.terms.pages) T P m.0.told told done k x.ends,
+          λ T P told. asks_as f own b.terms ks (sum_in t b.terms.farm.pages) (signature_in t b.terms.farm.pages) T P m.0.told told done k x.ends,
         )
     step_judged tally (weigh_refused {t = t} {t' = t'} e x) shape h before last (is, one) =
         quiet first _ t last (λ a s i v r. r) (is ∙ x.2) (before t one)

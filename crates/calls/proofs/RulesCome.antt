@@ -17,9 +17,9 @@ use Rattle.calls.specs.Replies.{Unfilled, AsksBy, SettlesBy, ClosedAs, JudgedBy}
 module _ (f : Ops) (t : Terms) (T P : Table) where
   -- an outcome to which the rules come
   abbrev Truly : Outcome → Type 0
-  Truly over = Comes f t.stations t.pages t.bound T T (P 1) over
-  Truly (split n) = Comes f t.stations t.pages t.bound T T (P 1) (split n)
-  Truly (filled R) = Fills f t.stations t.pages t.bound T T (P 1) P R
+  Truly over = Comes f t.farm.stations t.farm.pages t.farm.bound T T (P 1) over
+  Truly (split n) = Comes f t.farm.stations t.farm.pages t.farm.bound T T (P 1) (split n)
+  Truly (filled R) = Fills f t.farm.stations t.farm.pages t.farm.bound T T (P 1) P R
   Truly (asks k) = Unit {0}
 
   weighs_come : (o : Outcome) → WeighsBy f t T P o → Truly o
@@ -37,11 +37,11 @@ module _ (f : Ops) (t : Terms) (T P : Table) where
 
   -- over, a split, or a report whose rows stand in the tally
   abbrev pub Ended : (tally : List ℕ) → Verdict → Type 0
-  Ended tally Over = Comes f t.stations t.pages t.bound T T (P 1) over
-  Ended tally (Split n) = EndsSplit f t.stations t.pages t.bound T T (P 1) P n
+  Ended tally Over = Comes f t.farm.stations t.farm.pages t.farm.bound T T (P 1) over
+  Ended tally (Split n) = EndsSplit f t.farm.stations t.farm.pages t.farm.bound T T (P 1) P n
   Ended tally Report =
-      (R : Table) × EndsReport f t.stations t.pages t.bound T T (P 1) P R
-      × Same t.stations t.pages (signature_in tally t.pages) R
+      (R : Table) × EndsReport f t.farm.stations t.farm.pages t.farm.bound T T (P 1) P R
+      × Same t.farm.stations t.farm.pages (signature_in tally t.farm.pages) R
 
   ended : (Ends : Outcome → Type 0) → ((o : Outcome) → Ends o → Truly o) → (tally : List ℕ) (v : Verdict) → ClosedAs t tally Ends v → Ended tally v
   ended Ends come tally Over x = come over x.0
@@ -51,12 +51,12 @@ module _ (f : Ops) (t : Terms) (T P : Table) where
 
   -- where a page is split the tally has the rows that the rules fill, or none are filled
   split_by : (Ends : Outcome → Type 0) → ((o : Outcome) → Ends o → Truly o) → (tally : List ℕ) (n : ℕ) → ClosedAs t tally Ends (Split n)
-      → ((R : Table) × Fills f t.stations t.pages t.bound T T (P 1) P R × Same t.stations t.pages (signature_in tally t.pages) R) ⊎ Unfilled t tally
+      → ((R : Table) × Fills f t.farm.stations t.farm.pages t.farm.bound T T (P 1) P R × Same t.farm.stations t.farm.pages (signature_in tally t.farm.pages) R) ⊎ Unfilled t tally
   split_by Ends come tally n (inl x) = inr x.1
   split_by Ends come tally n (inr x) = inl (x.0, come (filled x.0) x.1, x.2)
 
   pub split_rows : (tally : List ℕ) (way : Way) (n : ℕ) → JudgedBy f t T P tally (closed way (Split n))
-      → ((R : Table) × Fills f t.stations t.pages t.bound T T (P 1) P R × Same t.stations t.pages (signature_in tally t.pages) R) ⊎ Unfilled t tally
+      → ((R : Table) × Fills f t.farm.stations t.farm.pages t.farm.bound T T (P 1) P R × Same t.farm.stations t.farm.pages (signature_in tally t.farm.pages) R) ⊎ Unfilled t tally
   split_rows tally ByWeighing n x = split_by (WeighsBy f t T P) weighs_come tally n x
   split_rows tally (BySettling k) n x = split_by (SettlesBy f t T P) (settles_come k x.0) tally n x.1
 

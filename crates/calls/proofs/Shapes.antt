@@ -14,12 +14,12 @@ use Rattle.calls.specs.States.{AskedAt}
 -- what the asking of a stage asks for
 abbrev pub StageAsks : Terms → Stage → Question → Type 0
 StageAsks t first q = FirstAsks t q
-StageAsks t (second k) q = (¬ PlainTerms t) × Within 2 t.stations k × SecondAsks t q
+StageAsks t (second k) q = (¬ PlainTerms t) × Within 2 t.farm.stations k × SecondAsks t q
 StageAsks t (closed way v) q = Unit {0}
 
 -- every number but the stations 2 .. M stands free, and of these all that are not asked have told
 pub record Shape (f : Ops) (b : Book) (g : Stage) : Type 0 where
-  pub pages : Within 1 (page_limit f) b.terms.pages
+  pub pages : Within 1 (page_limit f) b.terms.farm.pages
   pub question : StageAsks b.terms g b.question
-  pub stations : (s : ℕ) → standing b s ≢ Free → Within 2 b.terms.stations s
-  pub others : (s : ℕ) → Within 2 b.terms.stations s → ¬ AskedAt g s → standing b s ≡ Done
+  pub stations : (s : ℕ) → standing b s ≢ Free → Within 2 b.terms.farm.stations s
+  pub others : (s : ℕ) → Within 2 b.terms.farm.stations s → ¬ AskedAt g s → standing b s ≡ Done

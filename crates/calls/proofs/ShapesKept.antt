@@ -22,14 +22,14 @@ use Rattle.calls.proofs.Shapes.{StageAsks, Shape}
 use Rattle.calls.proofs.StandingsSet.{standing_other, standing_start, not_free, not_done}
 
 -- where an asking ends every reply is in
-pub all_done : (b : Book) (room : ℕ) → Accepted (closing b room) → (s : ℕ) → Within 2 b.terms.stations s → standing b s ≡ Done
+pub all_done : (b : Book) (room : ℕ) → Accepted (closing b room) → (s : ℕ) → Within 2 b.terms.farm.stations s → standing b s ≡ Done
 all_done b room accepted = (close_cleared b room accepted).done
 
 -- one station of 2 .. M moves
-stations_then : (b b' : Book) (s : ℕ) (x : Standing) → b'.terms ≡ b.terms → b'.standings ≡ set b.standings s x → Within 2 b.terms.stations s
-    → ((t : ℕ) → standing b t ≢ Free → Within 2 b.terms.stations t) → (t : ℕ) → standing b' t ≢ Free → Within 2 b'.terms.stations t
-stations_then b b' s x terms is within h t off = subst (λ (u : Terms). Within 2 u.stations t) (sym terms) (elim (ℕ_discrete t s) [
-  | yes e ↦ subst (λ t. Within 2 b.terms.stations t) (sym e) within
+stations_then : (b b' : Book) (s : ℕ) (x : Standing) → b'.terms ≡ b.terms → b'.standings ≡ set b.standings s x → Within 2 b.terms.farm.stations s
+    → ((t : ℕ) → standing b t ≢ Free → Within 2 b.terms.farm.stations t) → (t : ℕ) → standing b' t ≢ Free → Within 2 b'.terms.farm.stations t
+stations_then b b' s x terms is within h t off = subst (λ (u : Terms). Within 2 u.farm.stations t) (sym terms) (elim (ℕ_discrete t s) [
+  | yes e ↦ subst (λ t. Within 2 b.terms.farm.stations t) (sym e) within
   | no d ↦ h t (λ free. off (standing_other b.standings s x is t d ∙ free))
 ])
 
@@ -38,15 +38,15 @@ module _ (f : Ops) where
   stays {g = g} e h = subst (λ (b : Book). Shape f b g) (sym e) h
 
   -- its reply was not in
-  moved : {b b' : Book} {g : Stage} (s : ℕ) (x : Standing) → Keeps b b' → b'.standings ≡ set b.standings s x → Within 2 b.terms.stations s
+  moved : {b b' : Book} {g : Stage} (s : ℕ) (x : Standing) → Keeps b b' → b'.standings ≡ set b.standings s x → Within 2 b.terms.farm.stations s
       → standing b s ≢ Done → Shape f b g → Shape f b' g
   moved {b} {b'} {g} s x keeps is within off h = record {
-    pages = subst (λ (t : Terms). Within 1 (page_limit f) t.pages) (sym keeps.terms) h.pages;
+    pages = subst (λ (t : Terms). Within 1 (page_limit f) t.farm.pages) (sym keeps.terms) h.pages;
     question =
         subst (λ (q : Question). StageAsks b'.terms g q) (sym keeps.question) (subst (λ (t : Terms). StageAsks t g b.question) (sym keeps.terms) h.question);
     stations = stations_then b b' s x keeps.terms is within h.stations;
     others = λ t inside d.
-        let done = h.others t (subst (λ (u : Terms). Within 2 u.stations t) keeps.terms inside) d in
+        let done = h.others t (subst (λ (u : Terms). Within 2 u.farm.stations t) keeps.terms inside) d in
         standing_other b.standings s x is t (λ e. off (ap (standing b) (sym e) ∙ done)) ∙ done;
   }
 
@@ -75,16 +75,16 @@ module _ (f : Ops) where
     step_kept (returns {r = Err e} r) h = stays r.1 h
     step_kept (weigh_closes {v = v} {t = t} x) h = closes ByWeighing v (length t) x.book x.accepted h
     step_kept (weigh_asks {b = b} {b' = b'} {k = k} {t = t} x) h =
-        let asked : (¬ PlainTerms b.terms) × Within 2 b.terms.stations k = asks_one f laws spread b.terms h.pages.1 t k x.ends in
+        let asked : (¬ PlainTerms b.terms) × Within 2 b.terms.farm.stations k = asks_one f laws spread b.terms h.pages.1 t k x.ends in
         record {
-          pages = subst (λ (t : Terms). Within 1 (page_limit f) t.pages) (sym x.again.terms) h.pages;
+          pages = subst (λ (t : Terms). Within 1 (page_limit f) t.farm.pages) (sym x.again.terms) h.pages;
           question =
-              subst (λ (t : Terms). (¬ PlainTerms t) × Within 2 t.stations k × SecondAsks t b'.question) (sym x.again.terms)
+              subst (λ (t : Terms). (¬ PlainTerms t) × Within 2 t.farm.stations k × SecondAsks t b'.question) (sym x.again.terms)
               (asked.0, asked.1, x.again.question);
           stations = stations_then b b' k Free x.again.terms x.again.standings asked.1 h.stations;
           others = λ s within d.
               standing_other b.standings k Free x.again.standings s (λ e. d (sym e))
-              ∙ all_done b (length t) x.accepted s (subst (λ (t : Terms). Within 2 t.stations s) x.again.terms within);
+              ∙ all_done b (length t) x.accepted s (subst (λ (t : Terms). Within 2 t.farm.stations s) x.again.terms within);
         }
     step_kept (weigh_refused e x) h = stays x.1 h
     step_kept (settle_closes {k = k} {v = v} {t = t} x) h = closes (BySettling k) v (length t) x.book x.accepted h

@@ -162,7 +162,7 @@ return_leaves p r = record {
 -- ── the second asking begins: no slip is out, and nothing was done about its requests
 module _ (f : Ops) (l : Laws f) (spread : Spread f) (b b' : Book) (k : ℕ) (t t' : List ℕ) (x : WeighAsks f b t k b' t') (shape : Shape f b first)
     (ks : List Call) (h : Known ks b first) where
-  asked_one : (¬ PlainTerms b.terms) × Within 2 b.terms.stations k
+  asked_one : (¬ PlainTerms b.terms) × Within 2 b.terms.farm.stations k
   asked_one = asks_one f l spread b.terms shape.pages.1 t k x.ends
 
   none_out : (s : ℕ) → ¬ SlipOut (standing b s)
@@ -189,7 +189,7 @@ module _ (f : Ops) (l : Laws f) (spread : Spread f) (b b' : Book) (k : ℕ) (t t
       h.early q (newest_same (IsReturn Answered) (return_about Answered) (weigh t t') ks q (λ a. a) n),
       asked.3,
       x.again.question.1,
-      first_sums_between b.terms.stations b.terms.bound b.terms.bound_in.0,
+      first_sums_between b.terms.farm.stations b.terms.farm.bound b.terms.farm.bound_in.0,
     )),
   )
 

@@ -16,8 +16,8 @@ pub standing_same : (xs : List Standing) {ys : List Standing} (s : ℕ) (x : Sta
 standing_same xs s x is inside = ap (λ ys. standing_of ys s) is ∙ get_or-set_same xs s x Free inside
 
 -- every station's place is one of the standings
-pub place_inside : (b : Book) (s : ℕ) → Within 2 b.terms.stations s → s < length b.standings
-place_inside b s within = omega (arith, b.full, b.terms.stations_in)
+pub place_inside : (b : Book) (s : ℕ) → Within 2 b.terms.farm.stations s → s < length b.standings
+place_inside b s within = omega (arith, b.full, b.terms.farm.stations_in)
 
 standing_all_free : (n s : ℕ) → standing_of (replicate n Free) s ≡ Free
 standing_all_free zero s = refl

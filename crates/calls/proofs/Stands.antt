@@ -32,8 +32,8 @@ use Rattle.calls.proofs.Heard.{More, Heard, due_index}
 
 -- the tally has room, and its rows are as told
 pub record Stands (f : Ops) (own : List ℕ) (t : Terms) (ks : List Call) (tally : List ℕ) : Type 0 where
-  pub room : tally_size t.stations t.pages ≤ length tally
-  pub told : AsTold f own t ks (sum_in tally t.pages) (signature_in tally t.pages)
+  pub room : tally_size t.farm.stations t.farm.pages ≤ length tally
+  pub told : AsTold f own t ks (sum_in tally t.farm.pages) (signature_in tally t.farm.pages)
 
 module _ (f : Ops) (own : List ℕ) (t : Terms) where
   -- what is told by calls is told by fewer of them
@@ -48,11 +48,11 @@ module _ (f : Ops) (own : List ℕ) (t : Terms) where
   -- nothing is replied
   pub same_stands : (ks more : List Call) (tally : List ℕ) → More more ks → Stands f own t ks tally → Stands f own t more tally
   same_stands ks more tally down h =
-      record { room = h.room; told = fewer_told more ks (sum_in tally t.pages) (signature_in tally t.pages) down h.told }
+      record { room = h.room; told = fewer_told more ks (sum_in tally t.farm.pages) (signature_in tally t.farm.pages) down h.told }
 
 -- a value replied stands at its place
 at_place : (f : Ops) (own : List ℕ) (t : Terms) (ks : List Call) (tally : List ℕ) → Stands f own t ks tally → (a : Asked) (s i v : ℕ) → Replied ks a s i v
-    → get_or tally (place_of a t.pages s i) 0 ≡ v
+    → get_or tally (place_of a t.farm.pages s i) 0 ≡ v
 at_place f own t ks tally h Sums s i v r = h.told.sums s i v r
 at_place f own t ks tally h Signatures s i v r = h.told.signatures s i v r
 
@@ -98,17 +98,17 @@ opened_unfilled f own number M N bound before after b o =
 module _ (f : Ops) (own : List ℕ) (t : Terms) (q : Question) (xs : List Standing) (g : Stage) (only : Option ℕ) (opens : AsksOnly g only) (asks : StageAsks t g q)
     (ks : List Call) (h : Heard t q xs g ks) (p : Slip) (words values before after : List ℕ) (u : Unit {0})
     (same : (p.request.asked ≡ q.asked) × (p.request.first ≡ q.first) × (p.request.last ≡ q.last))
-    (within : Within 2 t.stations p.request.station) (asked : AskedAt g p.request.station) (out : reply_in (standing_of xs p.request.station) ≡ 0)
-    (reply : Reply f p.request words values) (entered : Entered t.pages p.request values before after) (stands : Stands f own t ks before) where
-  requested : (k : ℕ) → Within p.request.first p.request.last k → Index p.request.asked t.pages k
+    (within : Within 2 t.farm.stations p.request.station) (asked : AskedAt g p.request.station) (out : reply_in (standing_of xs p.request.station) ≡ 0)
+    (reply : Reply f p.request words values) (entered : Entered t.farm.pages p.request values before after) (stands : Stands f own t ks before) where
+  requested : (k : ℕ) → Within p.request.first p.request.last k → Index p.request.asked t.farm.pages k
   requested = request_indices t q g only opens asks p.request same
 
-  stays : (a : Asked) (s i : ℕ) → 1 ≤ s → Index a t.pages i → ((k : ℕ) → Within p.request.first p.request.last k → s ≡ p.request.station → a ≡ p.request.asked → i ≢ k)
-      → get_or after (place_of a t.pages s i) 0 ≡ get_or before (place_of a t.pages s i) 0
+  stays : (a : Asked) (s i : ℕ) → 1 ≤ s → Index a t.farm.pages i → ((k : ℕ) → Within p.request.first p.request.last k → s ≡ p.request.station → a ≡ p.request.asked → i ≢ k)
+      → get_or after (place_of a t.farm.pages s i) 0 ≡ get_or before (place_of a t.farm.pages s i) 0
   stays a s i lo index apart =
-      entered.rest (place_of a t.pages s i)
+      entered.rest (place_of a t.farm.pages s i)
       (λ k from to. let w : Within p.request.first p.request.last k = omega (arith, reply.count) in
-      places_apart a p.request.asked t.pages s p.request.station i k lo (omega (arith, within)) index (requested k w) (apart k w))
+      places_apart a p.request.asked t.farm.pages s p.request.station i k lo (omega (arith, within)) index (requested k w) (apart k w))
 
   values_are : drop 4 words ≡ values
   values_are = ap (λ words. drop 4 words) reply.parts
@@ -116,11 +116,11 @@ module _ (f : Ops) (own : List ℕ) (t : Terms) (q : Question) (xs : List Standi
   abbrev now : List Call
   now = take p words before (Ok u) after ∷ ks
 
-  stand_now : (a : Asked) (s i v : ℕ) → Replied now a s i v → get_or after (place_of a t.pages s i) 0 ≡ v
+  stand_now : (a : Asked) (s i v : ℕ) → Replied now a s i v → get_or after (place_of a t.farm.pages s i) 0 ≡ v
   stand_now a s i v (inl r) =
-      subst₂ (λ a s. get_or after (place_of a t.pages s i) 0 ≡ v) r.1 r.0
+      subst₂ (λ a s. get_or after (place_of a t.farm.pages s i) 0 ≡ v) r.1 r.0
       (entered.each i r.2.0 (omega (arith, reply.count, r.2))
-      (index_inside p.request.asked t.stations t.pages p.request.station i (length before) (omega (arith, within)) within.1 stands.room (requested i r.2))
+      (index_inside p.request.asked t.farm.stations t.farm.pages p.request.station i (length before) (omega (arith, within)) within.1 stands.room (requested i r.2))
       ∙ ap (λ values. value_of (get_or values (i - p.request.first) 0)) (sym values_are) ∙ r.3)
   stand_now a s i v (inr r) =
       let d = h.due a s i v r in
@@ -134,7 +134,7 @@ module _ (f : Ops) (own : List ℕ) (t : Terms) (q : Question) (xs : List Standi
     room = omega (arith, stands.room, entered.size);
     told = record {
       own_row = λ n page. stays Signatures 1 n (omega arith) page (λ k w is kind. absurd (omega (arith, is, within))) ∙ stands.told.own_row n page;
-      own_sums = λ j page. stays Sums 1 j (omega arith) (omega (arith, page, t.bound_in.1)) (λ k w is kind. absurd (omega (arith, is, within))) ∙ stands.told.own_sums j page;
+      own_sums = λ j page. stays Sums 1 j (omega arith) (omega (arith, page, t.farm.bound_in.1)) (λ k w is kind. absurd (omega (arith, is, within))) ∙ stands.told.own_sums j page;
       sums = stand_now Sums;
       signatures = stand_now Signatures;
     };

@@ -16,38 +16,38 @@ use Rattle.calls.proofs.ValuesPerReply.{per_reply}
 
 -- the most that a check on these terms takes
 abbrev pub most_of : Terms → ℕ
-most_of t = most_taken t.stations t.pages t.bound
+most_of t = most_taken t.farm.stations t.farm.pages t.farm.bound
 
 -- every first sum of the stations 2 .. M
 abbrev pub all_first : Terms → ℕ
-all_first t = first_sums t.stations t.bound * (t.stations - 1)
+all_first t = first_sums t.farm.stations t.farm.bound * (t.farm.stations - 1)
 
 -- each reply that is in, of the first asking and of the second, has as many values as its question is for
 abbrev pub TakenBy : Book → Stage → Type 0
-TakenBy b first = b.counts.taken ≡ per_reply b.question * replies_in b.terms.stations b.standings
+TakenBy b first = b.counts.taken ≡ per_reply b.question * replies_in b.terms.farm.stations b.standings
 TakenBy b (second k) = b.counts.taken ≡ all_first b.terms + per_reply b.question * reply_in (standing b k)
 TakenBy b (closed way v) = b.counts.taken ≤ most_of b.terms
 
 -- what the questions are for, as a number
-pub sums_due : (t : Terms) (q : Question) → FirstAsks t q → ¬ PlainTerms t → per_reply q ≡ first_sums t.stations t.bound
+pub sums_due : (t : Terms) (q : Question) → FirstAsks t q → ¬ PlainTerms t → per_reply q ≡ first_sums t.farm.stations t.farm.bound
 sums_due t q (inl x) not = absurd (not x.0)
 sums_due t q (inr x) not = omega (arith, x.1.1, x.1.2)
 
-second_due : (t : Terms) (q : Question) → SecondAsks t q → per_reply q ≡ all_sums t.pages t.bound - first_sums t.stations t.bound
+second_due : (t : Terms) (q : Question) → SecondAsks t q → per_reply q ≡ all_sums t.farm.pages t.farm.bound - first_sums t.farm.stations t.farm.bound
 second_due t q x = omega (arith, x.1, x.2)
 
 -- all replies of the first asking
-first_most : (t : Terms) (q : Question) → FirstAsks t q → per_reply q * (t.stations - 1) ≤ most_of t
+first_most : (t : Terms) (q : Question) → FirstAsks t q → per_reply q * (t.farm.stations - 1) ≤ most_of t
 first_most t q (inl x) =
-    let due : per_reply q ≡ t.pages = omega (arith, x.1.1, x.1.2) in
-    omega (arith, ap (λ d. d * (t.stations - 1)) due, most_pages t.stations t.pages t.bound t.stations_in.0 t.bound_in.0 x.0)
+    let due : per_reply q ≡ t.farm.pages = omega (arith, x.1.1, x.1.2) in
+    omega (arith, ap (λ d. d * (t.farm.stations - 1)) due, most_pages t.farm.stations t.farm.pages t.farm.bound t.farm.stations_in.0 t.farm.bound_in.0 x.0)
 first_most t q (inr x) =
-    omega (arith, ap (λ d. d * (t.stations - 1)) (sums_due t q (inr x) x.0), most_sums t.stations t.pages t.bound t.stations_in.0 t.bound_in.0 x.0)
+    omega (arith, ap (λ d. d * (t.farm.stations - 1)) (sums_due t q (inr x) x.0), most_sums t.farm.stations t.farm.pages t.farm.bound t.farm.stations_in.0 t.farm.bound_in.0 x.0)
 
 pub taken_few : (f : Ops) (b : Book) (g : Stage) → Shape f b g → TakenBy b g → b.counts.taken ≤ most_of b.terms
 taken_few f b first shape taken =
     let t = b.terms in
-    omega (arith, taken, mul-le-mul_left (per_reply b.question) (replies_in_most t.stations b.standings), first_most t b.question shape.question)
+    omega (arith, taken, mul-le-mul_left (per_reply b.question) (replies_in_most t.farm.stations b.standings), first_most t b.question shape.question)
 taken_few f b (second k) shape taken =
     let t = b.terms in
     omega (
@@ -55,6 +55,6 @@ taken_few f b (second k) shape taken =
       taken,
       second_due t b.question shape.question.2,
       mul-le-mul_left (per_reply b.question) (reply_in_most (standing b k)),
-      most_sums t.stations t.pages t.bound t.stations_in.0 t.bound_in.0 shape.question.0,
+      most_sums t.farm.stations t.farm.pages t.farm.bound t.farm.stations_in.0 t.farm.bound_in.0 shape.question.0,
     )
 taken_few f b (closed way v) shape taken = taken

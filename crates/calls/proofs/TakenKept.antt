@@ -26,14 +26,14 @@ use Rattle.calls.proofs.ValuesPerReply.{per_reply, values_per_reply}
 use Rattle.calls.proofs.TakenByStage.{most_of, all_first, TakenBy, sums_due, taken_few}
 
 -- ── one station moves, and the terms and the question stay
-module _ (b b' : Book) (s : ℕ) (x : Standing) (keeps : Keeps b b') (is : b'.standings ≡ set b.standings s x) (within : Within 2 b.terms.stations s) where
+module _ (b b' : Book) (s : ℕ) (x : Standing) (keeps : Keeps b b') (is : b'.standings ≡ set b.standings s x) (within : Within 2 b.terms.farm.stations s) where
   -- how many replies are in
-  replies_then : replies_in b'.terms.stations b'.standings + reply_in (standing b s) ≡ replies_in b.terms.stations b.standings + reply_in x
+  replies_then : replies_in b'.terms.farm.stations b'.standings + reply_in (standing b s) ≡ replies_in b.terms.farm.stations b.standings + reply_in x
   replies_then =
       omega (
         arith,
-        ap (λ (t : Terms). replies_in t.stations b'.standings) keeps.terms,
-        replies_moved b.terms.stations b.standings s x is within (place_inside b s within),
+        ap (λ (t : Terms). replies_in t.farm.stations b'.standings) keeps.terms,
+        replies_moved b.terms.farm.stations b.standings s x is within (place_inside b s within),
       )
 
   here : standing b' s ≡ x
@@ -52,7 +52,7 @@ module _ (b b' : Book) (s : ℕ) (x : Standing) (keeps : Keeps b b') (is : b'.st
   -- a slip is handed out or comes back
   nothing_taken : (g : Stage) → reply_in (standing b s) ≡ reply_in x → b'.counts.taken ≡ b.counts.taken → TakenBy b g → TakenBy b' g
   nothing_taken first same taken h =
-      let as_many : replies_in b.terms.stations b.standings ≡ replies_in b'.terms.stations b'.standings = omega (arith, replies_then) in
+      let as_many : replies_in b.terms.farm.stations b.standings ≡ replies_in b'.terms.farm.stations b'.standings = omega (arith, replies_then) in
       taken ∙ h ∙ ap₂ ◌*◌ (sym due_then) as_many
   nothing_taken (second k) same taken h =
       taken ∙ h ∙ ap₂ ◌+◌ (ap all_first (sym keeps.terms)) (ap₂ ◌*◌ (sym due_then) (sym (reply_then k same)))
@@ -62,9 +62,9 @@ module _ (b b' : Book) (s : ℕ) (x : Standing) (keeps : Keeps b b') (is : b'.st
   reply_taken : (f : Ops) (g : Stage) (only : Option ℕ) → AsksOnly g only → standing b s ≡ Out → x ≡ Heard
       → b'.counts.taken ≡ b.counts.taken + per_reply b.question → Shape f b g → TakenBy b g → TakenBy b' g
   reply_taken f first only asked out heard taken shape h =
-      let n = replies_in b.terms.stations b.standings in
+      let n = replies_in b.terms.farm.stations b.standings in
       let d = per_reply b.question in
-      let one_more : replies_in b'.terms.stations b'.standings ≡ n + 1 = omega (arith, replies_then, ap reply_in out, ap reply_in heard) in
+      let one_more : replies_in b'.terms.farm.stations b'.standings ≡ n + 1 = omega (arith, replies_then, ap reply_in out, ap reply_in heard) in
       omega (arith, ap₂ ◌*◌ due_then one_more, mul-add d n 1)
   reply_taken f (second k) only asked out heard taken shape h = elim (ℕ_discrete s k) [
     | yes e ↦
@@ -85,10 +85,10 @@ asked_again : (f : Ops) → Laws f → Spread f → (b b' : Book) (k : ℕ) (t t
     → TakenBy b first → TakenBy b' (second k)
 asked_again f laws spread b b' k t t' x shape taken =
     let again = x.again in
-    let asked : (¬ PlainTerms b.terms) × Within 2 b.terms.stations k = asks_one f laws spread b.terms shape.pages.1 t k x.ends in
-    let due : per_reply b.question ≡ first_sums b.terms.stations b.terms.bound = sums_due b.terms b.question shape.question asked.0 in
-    let all : replies_in b.terms.stations b.standings ≡ b.terms.stations - 1 =
-    all_replies_in b.terms.stations b.standings (all_done b (length t) x.accepted) in
+    let asked : (¬ PlainTerms b.terms) × Within 2 b.terms.farm.stations k = asks_one f laws spread b.terms shape.pages.1 t k x.ends in
+    let due : per_reply b.question ≡ first_sums b.terms.farm.stations b.terms.farm.bound = sums_due b.terms b.question shape.question asked.0 in
+    let all : replies_in b.terms.farm.stations b.standings ≡ b.terms.farm.stations - 1 =
+    all_replies_in b.terms.farm.stations b.standings (all_done b (length t) x.accepted) in
     let free : standing b' k ≡ Free = standing_same b.standings k Free again.standings (place_inside b k asked.1) in
     omega (arith, ap (λ (c : Counts). c.taken) again.counts, taken, ap₂ ◌*◌ due all, ap all_first again.terms, ap (λ x. per_reply b'.question * reply_in x) free)
 
@@ -129,7 +129,7 @@ taken_kept f laws spread own tally _ b _ (opened o) =
     omega (
       arith,
       ap (λ (c : Counts). c.taken) o.starts.counts,
-      ap (λ n. per_reply b.question * n) (no_replies_in b.terms.stations b.standings (standing_start b.standings o.starts.standings)),
+      ap (λ n. per_reply b.question * n) (no_replies_in b.terms.farm.stations b.standings (standing_start b.standings o.starts.standings)),
     )
 taken_kept f laws spread own tally _ b' g' (called {ks = ks} {c = c} {b = b} {g = g} r x) =
     step_kept f laws spread x (shape_kept f laws spread own tally ks b g r) (taken_kept f laws spread own tally ks b g r)

@@ -22,20 +22,20 @@ use Rattle.calls.proofs.Cleared.{list_cleared}
 use Rattle.calls.proofs.RulesCome.{Ended, split_rows, rules_come}
 use Rattle.calls.proofs.BadPages.{bad_differs, differs_bad, listed_as}
 
-module _ (f : Ops) (l : Laws f) (spread : Spread f) (t : Terms) (pages : Within 1 (page_limit f) t.pages) (T P : Table)
-    (codes : (s : ℕ) → Station t.stations s → Codes f t.pages (P s)) (true : (s j : ℕ) → T s j ≡ power_sum f t.pages (P s) j)
-    (few : PlainTerms t ⊎ (strays t.stations P t.pages ≤ t.bound)) where
-  finds : Finds f t.stations t.pages t.bound P T T (P 1)
+module _ (f : Ops) (l : Laws f) (spread : Spread f) (t : Terms) (pages : Within 1 (page_limit f) t.farm.pages) (T P : Table)
+    (codes : (s : ℕ) → Station t.farm.stations s → Codes f t.farm.pages (P s)) (true : (s j : ℕ) → T s j ≡ power_sum f t.farm.pages (P s) j)
+    (few : PlainTerms t ⊎ (strays t.farm.stations P t.farm.pages ≤ t.farm.bound)) where
+  finds : Finds f t.farm.stations t.farm.pages t.farm.bound P T T (P 1)
   finds =
-      right f l spread t.stations t.pages t.bound t.stations_in.0 (omega (arith, pages.1)) P T T (P 1) codes
+      right f l spread t.farm.stations t.farm.pages t.farm.bound t.farm.stations_in.0 (omega (arith, pages.1)) P T T (P 1) codes
       (elim few [ inl plain ↦ inl plain | inr le ↦ inr (le, told) ])
     where
-      told : Told f t.stations t.pages t.bound P T T (P 1)
+      told : Told f t.farm.stations t.farm.pages t.farm.bound P T T (P 1)
       told = record { own_row = λ n p. refl; first = λ s j a p. true s j; own_sums = λ j p. true 1 j; second = λ k j w p. true k j }
 
   -- rows that the rules fill are those of P
-  rows_of : (tally : List ℕ) (R : Table) → Fills f t.stations t.pages t.bound T T (P 1) P R → Same t.stations t.pages (signature_in tally t.pages) R
-      → Same t.stations t.pages (signature_in tally t.pages) P
+  rows_of : (tally : List ℕ) (R : Table) → Fills f t.farm.stations t.farm.pages t.farm.bound T T (P 1) P R → Same t.farm.stations t.farm.pages (signature_in tally t.farm.pages) R
+      → Same t.farm.stations t.farm.pages (signature_in tally t.farm.pages) P
   rows_of tally R x same s n a p = same s n a p ∙ finds.rows_true R x s n a p
 
   report_right : (tally : List ℕ) → Ended f t T P tally Report → ReportRight P t tally
@@ -43,14 +43,14 @@ module _ (f : Ops) (l : Laws f) (spread : Spread f) (t : Terms) (pages : Within 
     decided = (finds.report_true R x).0;
     rows = rows;
     lists = λ s count before after h.
-        listed_as t.pages (Bad t.stations (signature_in tally t.pages) s) (Differs t.stations P s)
-        (λ n p bad. bad_differs t.stations P n s ((finds.report_true R x).0 n p)
-        (bad_same t.stations t.pages P (signature_in tally t.pages) (λ s n a p. sym (rows s n a p)) n p s (list_cleared t (Some Report) s tally (length before) h.0).station bad))
-        (λ n p d. bad_same t.stations t.pages (signature_in tally t.pages) P rows n p s (list_cleared t (Some Report) s tally (length before) h.0).station (differs_bad t.stations P n s d))
+        listed_as t.farm.pages (Bad t.farm.stations (signature_in tally t.farm.pages) s) (Differs t.farm.stations P s)
+        (λ n p bad. bad_differs t.farm.stations P n s ((finds.report_true R x).0 n p)
+        (bad_same t.farm.stations t.farm.pages P (signature_in tally t.farm.pages) (λ s n a p. sym (rows s n a p)) n p s (list_cleared t (Some Report) s tally (length before) h.0).station bad))
+        (λ n p d. bad_same t.farm.stations t.farm.pages (signature_in tally t.farm.pages) P rows n p s (list_cleared t (Some Report) s tally (length before) h.0).station (differs_bad t.farm.stations P n s d))
         before after count h.1;
   }
     where
-      rows : Same t.stations t.pages (signature_in tally t.pages) P
+      rows : Same t.farm.stations t.farm.pages (signature_in tally t.farm.pages) P
       rows = rows_of tally R x.0 same
 
   split_right : (tally : List ℕ) (way : Way) (n : ℕ) → JudgedBy f t T P tally (closed way (Split n)) → SplitRight P t tally n

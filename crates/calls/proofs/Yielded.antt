@@ -68,13 +68,13 @@ module _ (f : Ops) (l : Laws f) (holds : ℕ → List ℕ) (M N : ℕ) (farm : F
   all_yielded (c ∷ ks) y a s i v st (inl r) = call_yielded c y.0 a s i v st r
   all_yielded (c ∷ ks) y a s i v st (inr r) = all_yielded ks y.1 a s i v st r
 
-pub yielded_told : (f : Ops) → Laws f → (holds : ℕ → List ℕ) (t : Terms) → FarmHolds f t.stations t.pages holds → (own : List ℕ) → own ≡ holds 1 → (ks : List Call)
-    → ((a : Asked) (s i v : ℕ) → Replied ks a s i v → Station t.stations s) → AllYielded f holds ks → AsTold f own t ks (sums f t.pages holds) (copies holds)
+pub yielded_told : (f : Ops) → Laws f → (holds : ℕ → List ℕ) (t : Terms) → FarmHolds f t.farm.stations t.farm.pages holds → (own : List ℕ) → own ≡ holds 1 → (ks : List Call)
+    → ((a : Asked) (s i v : ℕ) → Replied ks a s i v → Station t.farm.stations s) → AllYielded f holds ks → AsTold f own t ks (sums f t.farm.pages holds) (copies holds)
 yielded_told f l holds t farm own same ks within yields = record {
   own_row = λ n p. ap (λ row. entry row n) (sym same);
-  own_sums = λ j p. ap (λ row. power_sum f t.pages (entry row) j) (sym same);
+  own_sums = λ j p. ap (λ row. power_sum f t.farm.pages (entry row) j) (sym same);
   sums = λ s j v r.
       let st = within Sums s j v r in
-      ap (λ n. power_sum f n (entry (holds s)) j) (sym (farm.pages s st)) ∙ all_yielded f l holds t.stations t.pages farm ks yields Sums s j v st r;
-  signatures = λ s n v r. all_yielded f l holds t.stations t.pages farm ks yields Signatures s n v (within Signatures s n v r) r;
+      ap (λ n. power_sum f n (entry (holds s)) j) (sym (farm.pages s st)) ∙ all_yielded f l holds t.farm.stations t.farm.pages farm ks yields Sums s j v st r;
+  signatures = λ s n v r. all_yielded f l holds t.farm.stations t.farm.pages farm ks yields Signatures s n v (within Signatures s n v r) r;
 }

@@ -28,29 +28,29 @@ use Rattle.calls.specs.Slips.{standing}
 
 -- the slip of station s is out; its reply is lacking
 abbrev pub StillOut : Book → ℕ → Type 0
-StillOut b s = Within 2 b.terms.stations s × SlipOut (standing b s)
+StillOut b s = Within 2 b.terms.farm.stations s × SlipOut (standing b s)
 
 abbrev pub Lacking : Book → ℕ → Type 0
-Lacking b s = Within 2 b.terms.stations s × (standing b s ≢ Done)
+Lacking b s = Within 2 b.terms.farm.stations s × (standing b s ≢ Done)
 
 -- a short tally, the lowest station whose slip is out, then the lowest whose reply is lacking
 abbrev pub closing : Book → (room : ℕ) → List Rule
-closing b room = unless (tally_size b.terms.stations b.terms.pages ≤ room) 2 1 ∷ lowest (StillOut b) 4 ∷ lowest (Lacking b) 7 ∷ []
+closing b room = unless (tally_size b.terms.farm.stations b.terms.farm.pages ≤ room) 2 1 ∷ lowest (StillOut b) 4 ∷ lowest (Lacking b) 7 ∷ []
 
 -- what weighing comes to where the sums T and the rows P are told: in a plain check the rows at hand, else what the rules say of the first sums
 abbrev pub WeighsBy : Ops → Terms → (T P : Table) → Outcome → Type 0
 WeighsBy f t T P o =
-    ((R : Table) × (o ≡ filled R) × PlainTerms t × Same t.stations t.pages R P)
-    ⊎ ((¬ PlainTerms t) × rules.Weighs f t.stations t.pages t.bound T (P 1) o)
+    ((R : Table) × (o ≡ filled R) × PlainTerms t × Same t.farm.stations t.farm.pages R P)
+    ⊎ ((¬ PlainTerms t) × rules.Weighs f t.farm.stations t.farm.pages t.farm.bound T (P 1) o)
 
 module _ (f : Ops) (t : Terms) (tally : List ℕ) where
   -- by what stands in the tally
   abbrev pub WeighEnds : Outcome → Type 0
-  WeighEnds = WeighsBy f t (sum_in tally t.pages) (signature_in tally t.pages)
+  WeighEnds = WeighsBy f t (sum_in tally t.farm.pages) (signature_in tally t.farm.pages)
 
   -- what settling comes to: what the rules say of all sums
   abbrev pub SettleEnds : Outcome → Type 0
-  SettleEnds o = Comes f t.stations t.pages t.bound tally tally o
+  SettleEnds o = Comes f t.farm.stations t.farm.pages t.farm.bound tally tally o
 
 -- How a check closes, by what the rules end in: over or a split at once, with the tally as it was; or on rows that are filled, with the tally as they make it.
 module _ (M N : ℕ) (Ends : Outcome → Type 0) (Kept : Type 0) (Made : Table → Type 0) where
@@ -66,7 +66,7 @@ ClosesWith Ends M N before after = ClosesBy M N Ends (after ≡ before) (Filled 
 -- the check closes with verdict v and keeps its book
 pub record WeighCloses (f : Ops) (b : Book) (before : List ℕ) (v : Verdict) (b' : Book) (after : List ℕ) : Type 0 where
   pub accepted : Accepted (closing b (length before))
-  pub finds : ClosesWith (WeighEnds f b.terms before) b.terms.stations b.terms.pages before after v
+  pub finds : ClosesWith (WeighEnds f b.terms before) b.terms.farm.stations b.terms.farm.pages before after v
   pub book : b' ≡ b
 
 -- the second asking is for the sums that are left, and begins for station k afresh
@@ -85,7 +85,7 @@ pub record WeighAsks (f : Ops) (b : Book) (before : List ℕ) (k : ℕ) (b' : Bo
 
 pub record SettleCloses (f : Ops) (b : Book) (before : List ℕ) (v : Verdict) (b' : Book) (after : List ℕ) : Type 0 where
   pub accepted : Accepted (closing b (length before))
-  pub finds : ClosesWith (SettleEnds f b.terms before) b.terms.stations b.terms.pages before after v
+  pub finds : ClosesWith (SettleEnds f b.terms before) b.terms.farm.stations b.terms.farm.pages before after v
   pub book : b' ≡ b
 
 -- refused: the check and the tally are what they were

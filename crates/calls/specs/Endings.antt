@@ -29,5 +29,5 @@ EndsIn M N tally (outcome.Asks k) e = e ≡ Asks k
 
 -- how the first asking ends
 abbrev pub WeighedAs : Ops → Terms → (before after : List ℕ) → Ending → Type 0
-WeighedAs f t before after (Closes v) = ClosesWith (WeighEnds f t before) t.stations t.pages before after v
-WeighedAs f t before after (Asks k) = WeighEnds f t before (asks k) × (after ≡ before) × Within 2 t.stations k
+WeighedAs f t before after (Closes v) = ClosesWith (WeighEnds f t before) t.farm.stations t.farm.pages before after v
+WeighedAs f t before after (Asks k) = WeighEnds f t before (asks k) × (after ≡ before) × Within 2 t.farm.stations k

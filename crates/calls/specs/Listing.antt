@@ -28,11 +28,11 @@ crowded N Q room = record {
 -- a short tally, no report, no such station, then too little room for this station's bad pages
 abbrev pub listing : Terms → Option Verdict → (s : ℕ) → (tally : List ℕ) → (room : ℕ) → List Rule
 listing t found s tally room =
-    unless (tally_size t.stations t.pages ≤ length tally) 2 1 ∷ unless (found ≡ Some Report) 12 0 ∷ unless (Within 1 t.stations s) 3 s
-    ∷ crowded t.pages (Bad t.stations (signature_in tally t.pages) s) room ∷ []
+    unless (tally_size t.farm.stations t.farm.pages ≤ length tally) 2 1 ∷ unless (found ≡ Some Report) 12 0 ∷ unless (Within 1 t.farm.stations s) 3 s
+    ∷ crowded t.farm.pages (Bad t.farm.stations (signature_in tally t.farm.pages) s) room ∷ []
 
 -- what listing gives, and what the buffer then holds
 abbrev pub Listing : Terms → Option Verdict → (s : ℕ) → (tally before : List ℕ) → Result ℕ Refusal → (after : List ℕ) → Type 0
 Listing t found s tally before (Ok count) after =
-    Accepted (listing t found s tally (length before)) × Listed t.pages (Bad t.stations (signature_in tally t.pages) s) before after count
+    Accepted (listing t found s tally (length before)) × Listed t.farm.pages (Bad t.farm.stations (signature_in tally t.farm.pages) s) before after count
 Listing t found s tally before (Err refusal) after = Refused (listing t found s tally (length before)) refusal × (after ≡ before)

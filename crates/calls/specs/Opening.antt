@@ -26,7 +26,7 @@ abbrev pub opening : Ops → (number M N bound own room : ℕ) → List Rule
 opening f number M N bound own room = terms_in f number M N bound own ++ (unless (tally_size M N ≤ room) 2 1 ∷ [])
 
 abbrev pub Stands : Terms → (number M N bound : ℕ) → Type 0
-Stands t number M N bound = (t.number ≡ number) × (t.stations ≡ M) × (t.pages ≡ N) × (t.bound ≡ bound)
+Stands t number M N bound = (t.number ≡ number) × (t.farm.stations ≡ M) × (t.farm.pages ≡ N) × (t.farm.bound ≡ bound)
 
 abbrev pub no_counts : Counts
 no_counts = record { handed = 0; answered = 0; blank = 0; out = 0; taken = 0 }

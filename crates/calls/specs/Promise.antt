@@ -66,26 +66,26 @@ pub record Counted (ks : List Call) (b : Book) : Type 0 where
   pub taken : b.counts.taken ≡ all_calls taken_by ks
   pub out : b.counts.handed ≡ b.counts.answered + b.counts.blank + b.counts.out
   pub replied : b.counts.answered + replies_out b.standings ≡ all_calls replied_by ks
-  pub few : b.counts.taken ≤ most_taken b.terms.stations b.terms.pages b.terms.bound
+  pub few : b.counts.taken ≤ most_taken b.terms.farm.stations b.terms.farm.pages b.terms.farm.bound
 
 -- ── answers
 
 module _ (f : Ops) (holds : ℕ → List ℕ) (t : Terms) where
   -- what weighing comes to by what the stations hold
   abbrev pub TrulyWeighs : Outcome → Type 0
-  TrulyWeighs = WeighsBy f t (sums f t.pages holds) (copies holds)
+  TrulyWeighs = WeighsBy f t (sums f t.farm.pages holds) (copies holds)
 
   -- weighing asks station k again
   abbrev pub TrulyAsks : ℕ → Type 0
-  TrulyAsks = AsksBy f t (sums f t.pages holds) (copies holds)
+  TrulyAsks = AsksBy f t (sums f t.farm.pages holds) (copies holds)
 
   -- what settling comes to
   abbrev pub TrulySettles : Outcome → Type 0
-  TrulySettles = SettlesBy f t (sums f t.pages holds) (copies holds)
+  TrulySettles = SettlesBy f t (sums f t.farm.pages holds) (copies holds)
 
   -- weighing and settling did what the rules say of what the stations hold
   abbrev pub Judged : (tally : List ℕ) → Stage → Type 0
-  Judged = JudgedBy f t (sums f t.pages holds) (copies holds)
+  Judged = JudgedBy f t (sums f t.farm.pages holds) (copies holds)
 
 -- the copy of page n at station s differs from what more than half of the stations hold
 abbrev pub Differs : ℕ → Table → (s n : ℕ) → Type 0
@@ -94,16 +94,16 @@ Differs M P s n = (v : ℕ) × Majority M P n v × (P s n ≢ v)
 -- a report is right of the table P: every page has a majority, the tally's rows are those of P, and any list that is not refused names, rising, exactly
 -- the pages of its station that differ from the majority
 pub record ReportRight (P : Table) (t : Terms) (tally : List ℕ) : Type 0 where
-  pub decided : Reports t.stations t.pages P
-  pub rows : Same t.stations t.pages (signature_in tally t.pages) P
+  pub decided : Reports t.farm.stations t.farm.pages P
+  pub rows : Same t.farm.stations t.farm.pages (signature_in tally t.farm.pages) P
   pub lists : (s count : ℕ) (before after : List ℕ) → Listing t (Some Report) s tally before (Ok count) after
-      → Listed t.pages (Differs t.stations P s) before after count
+      → Listed t.farm.pages (Differs t.farm.stations P s) before after count
 
 -- a split is right of the table P: its page has no majority; the tally's rows are those of P, or none are filled
 pub record SplitRight (P : Table) (t : Terms) (tally : List ℕ) (n : ℕ) : Type 0 where
-  pub page : Page t.pages n
-  pub undecided : ¬ Decided t.stations P n
-  pub rows : Same t.stations t.pages (signature_in tally t.pages) P ⊎ Unfilled t tally
+  pub page : Page t.farm.pages n
+  pub undecided : ¬ Decided t.farm.stations P n
+  pub rows : Same t.farm.stations t.farm.pages (signature_in tally t.farm.pages) P ⊎ Unfilled t tally
 
 -- what was found is right of P: a split and a report are, and the check is never over
 abbrev pub Right : (P : Table) → Terms → (tally : List ℕ) → Stage → Type 0
@@ -115,8 +115,8 @@ Right P t tally (closed way Report) = ReportRight P t tally
 
 -- the table P yields all that was told: its row 1 is the own copy, and its sums and signatures are those of the accepted replies
 pub record YieldsAll (f : Ops) (own : List ℕ) (t : Terms) (ks : List Call) (P : Table) : Type 0 where
-  pub codes : (s : ℕ) → Station t.stations s → Codes f t.pages (P s)
-  pub told : AsTold f own t ks (λ s. power_sum f t.pages (P s)) P
+  pub codes : (s : ℕ) → Station t.farm.stations s → Codes f t.farm.pages (P s)
+  pub told : AsTold f own t ks (λ s. power_sum f t.farm.pages (P s)) P
 
 -- At every moment of every run whose calls share one tally, weighing and settling did what the rules say of any table that yields all that was told; and if
 -- it has no more stray copies than the bound, or the check is plain, what was found is right of it. Of the stations nothing is supposed.
@@ -124,14 +124,14 @@ abbrev pub RepliesRight : Type 0
 RepliesRight =
     (f : Ops) → Laws f → Spread f → (own tally : List ℕ) (ks : List Call) (b : Book) (g : Stage) → Run f own tally ks b g →
     (last : List ℕ) → OneTally tally ks last → (P : Table) → YieldsAll f own b.terms ks P →
-    JudgedBy f b.terms (λ s. power_sum f b.terms.pages (P s)) P last g
-    × (PlainTerms b.terms ⊎ (strays b.terms.stations P b.terms.pages ≤ b.terms.bound) → Right P b.terms last g)
+    JudgedBy f b.terms (λ s. power_sum f b.terms.farm.pages (P s)) P last g
+    × (PlainTerms b.terms ⊎ (strays b.terms.farm.stations P b.terms.farm.pages ≤ b.terms.farm.bound) → Right P b.terms last g)
 
 -- Where a check closed with a report, the rows in the tally are such a table, if the own copy is of codes.
 abbrev pub ReportYields : Type 0
 ReportYields =
     (f : Ops) → Laws f → Spread f → (own : List ℕ) (ks : List Call) (b : Book) (way : Way) (last : List ℕ) →
-    ClosedRun f own ks b way Report last → Codes f b.terms.pages (entry own) → YieldsAll f own b.terms ks (signature_in last b.terms.pages)
+    ClosedRun f own ks b way Report last → Codes f b.terms.farm.pages (entry own) → YieldsAll f own b.terms ks (signature_in last b.terms.farm.pages)
 
 -- What accepted replies alone make of a run.
 abbrev pub ByReplies : Type 0
@@ -143,9 +143,9 @@ ByReplies = RepliesJudged × RepliesRight × RepliesDecide × ReportYields
 pub record Promised (f : Ops) (own tally : List ℕ) (ks : List Call) (b : Book) (g : Stage) : Type 0 where
   pub counted : Counted ks b
   pub known : SlipsKnown ks b g
-  pub steady : (holds : ℕ → List ℕ) (last : List ℕ) → FarmHolds f b.terms.stations b.terms.pages holds → Steady f holds own tally ks last →
+  pub steady : (holds : ℕ → List ℕ) (last : List ℕ) → FarmHolds f b.terms.farm.stations b.terms.farm.pages holds → Steady f holds own tally ks last →
       Judged f holds b.terms last g
-      × (PlainTerms b.terms ⊎ (strays b.terms.stations (copies holds) b.terms.pages ≤ b.terms.bound) → Right (copies holds) b.terms last g)
+      × (PlainTerms b.terms ⊎ (strays b.terms.farm.stations (copies holds) b.terms.farm.pages ≤ b.terms.farm.bound) → Right (copies holds) b.terms last g)
 
 abbrev pub EveryRun : Type 0
 EveryRun =

@@ -12,14 +12,14 @@ About q asked first last = (q.asked ≡ asked) × (q.first ≡ first) × (q.last
 
 -- all signatures are asked for in a plain check
 abbrev pub PlainTerms : Terms → Type 0
-PlainTerms t = Plain t.stations t.pages t.bound
+PlainTerms t = Plain t.farm.stations t.farm.pages t.farm.bound
 
 -- the first asking is for all signatures in a plain check, and for the first sums in any other
 abbrev pub FirstAsks : Terms → Question → Type 0
 FirstAsks t q =
-    (PlainTerms t × About q Signatures 1 t.pages)
-    ⊎ ((¬ PlainTerms t) × About q Sums 1 (first_sums t.stations t.bound))
+    (PlainTerms t × About q Signatures 1 t.farm.pages)
+    ⊎ ((¬ PlainTerms t) × About q Sums 1 (first_sums t.farm.stations t.farm.bound))
 
 -- the second asking is for the sums that are left
 abbrev pub SecondAsks : Terms → Question → Type 0
-SecondAsks t q = About q Sums (first_sums t.stations t.bound + 1) (all_sums t.pages t.bound)
+SecondAsks t q = About q Sums (first_sums t.farm.stations t.farm.bound + 1) (all_sums t.farm.pages t.farm.bound)

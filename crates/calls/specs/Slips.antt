@@ -44,7 +44,7 @@ Concerns (Some k) s = k ≡ s
 -- a short buffer, no such station, not the second asking's, a slip that is out, a reply that is in, then too many slips
 abbrev pub slipping : Book → Option ℕ → (s room : ℕ) → List Rule
 slipping b only s room =
-    unless (4 ≤ room) 2 2 ∷ unless (Within 2 b.terms.stations s) 3 s ∷ unless (Concerns only s) 6 s ∷ when (SlipOut (standing b s)) 4 s
+    unless (4 ≤ room) 2 2 ∷ unless (Within 2 b.terms.farm.stations s) 3 s ∷ unless (Concerns only s) 6 s ∷ when (SlipOut (standing b s)) 4 s
     ∷ when (standing b s ≡ Done) 5 s ∷ unless (b.counts.handed < 2 ^ 32 - 1) 11 0 ∷ []
 
 abbrev pub one_handed : Counts → Counts
@@ -67,7 +67,7 @@ Slips b only s before (Err refusal) b' after = Refused (slipping b only s (lengt
 -- a short tally, a stray slip, a reply that is in; then what is garbled, and what is foreign
 abbrev pub taking : Ops → Book → Request → (words : List ℕ) → (room : ℕ) → List Rule
 taking f b q words room =
-    unless (tally_size b.terms.stations b.terms.pages ≤ room) 2 1 ∷ unless (OutHere b q) 10 q.station ∷ when (standing b q.station ≡ Heard) 5 q.station
+    unless (tally_size b.terms.farm.stations b.terms.farm.pages ≤ room) 2 1 ∷ unless (OutHere b q) 10 q.station ∷ when (standing b q.station ≡ Heard) 5 q.station
     ∷ reading_reply f q words
 
 abbrev pub more_taken : ℕ → Counts → Counts
@@ -77,7 +77,7 @@ more_taken n c = record { handed = c.handed; answered = c.answered; blank = c.bl
 pub record TakesIn (f : Ops) (b : Book) (q : Request) (words before : List ℕ) (b' : Book) (after : List ℕ) : Type 0 where
   pub values : List ℕ
   pub reply : Reply f q words values
-  pub entered : Entered b.terms.pages q values before after
+  pub entered : Entered b.terms.farm.pages q values before after
   pub keeps : Keeps b b'
   pub standings : b'.standings ≡ slice_set b.standings q.station Heard
   pub counts : b'.counts ≡ more_taken (length values) b.counts

@@ -26,7 +26,7 @@ pub struct Check<F: Field, P> {
     pub(crate) book: Book,
     pub(crate) phase: P,
     pub(crate) field: PhantomData<F>,
-    ghost narrow: { Within 1 (page_limit F.Field.ops) book.terms.pages },
+    ghost narrow: { Within 1 (page_limit F.Field.ops) book.terms.farm.pages },
 }
 
 impl<F: Field> Check<F, First> {
@@ -57,7 +57,7 @@ impl<F: Field> Check<F, First> {
         ensures replies { ByReplies }
     {
         let terms = accept_terms::<F>(number, stations, pages, bound, own.page_count())?;
-        if terms.tally_size() > tally.len() {
+        if terms.farm.tally_size() > tally.len() {
             return Err(Refusal::Cramped(Buffer::Tally));
         }
         open_rows::<F, S>(own, &terms, tally);

@@ -12,14 +12,14 @@ use crate::phases::Verdict;
 use crate::standing::Standing;
 use crate::terms::Terms;
 use refusal::{Buffer, Refusal};
-use tally::{Outcome, Rows};
+use tally::Outcome;
 
 impl Book {
     // Whether the asking can end.
     pub(crate) fn can_close(&self, room: usize) -> Result<(), Refusal>
         ensures { MatchResult result (λ _. Accepted (Closing.closing self.now room)) (Refused (Closing.closing self.now room)) }
     {
-        if self.terms.tally_size() > room {
+        if self.terms.farm.tally_size() > room {
             return Err(Refusal::Cramped(Buffer::Tally));
         }
         if let Some(station) = self.lowest_out() {
@@ -35,28 +35,23 @@ impl Book {
     fn lowest_out(&self) -> Option<u32>
         ensures { MatchOption result ((s : ℕ) → StillOut self.now s → ⊥) (λ s. LowestAt (StillOut self.now) s) }
     {
-        (2..=self.terms.stations).find(|station| self.standing(*station).is_out())
+        (2..=self.terms.farm.stations as u32).find(|station| self.standing(*station).is_out())
     }
 
     // The lowest station whose reply is lacking.
     fn lowest_lacking(&self) -> Option<u32>
         ensures { MatchOption result ((s : ℕ) → Lacking self.now s → ⊥) (λ s. LowestAt (Lacking self.now) s) }
     {
-        (2..=self.terms.stations).find(|station| self.standing(*station) != Standing::Done)
+        (2..=self.terms.farm.stations as u32).find(|station| self.standing(*station) != Standing::Done)
     }
 }
 
 impl Terms {
     // What rows that are filled close with.
     pub(crate) fn close_on(&self, tally: &[u32]) -> Verdict
-        ensures { ClosesOn self.now.stations self.now.pages tally.now result }
+        ensures { ClosesOn self.now.farm.stations self.now.farm.pages tally.now result }
     {
-        let rows = Rows {
-            words: tally,
-            stations: self.stations as usize,
-            pages: self.pages as usize,
-        };
-        match rows.first_split() {
+        match self.farm.rows(tally).first_split() {
             Some(page) => Verdict::Split(page),
             None => Verdict::Report,
         }
@@ -65,7 +60,7 @@ impl Terms {
     // What an outcome of the rules ends in.
     pub(crate) fn ending_of(&self, outcome: Outcome, tally: &[u32]) -> Ending
         requires { (k : ℕ) → outcome ≡ Asks k → k ≤ 8 }
-        ensures { EndsIn self.now.stations self.now.pages tally.now outcome result }
+        ensures { EndsIn self.now.farm.stations self.now.farm.pages tally.now outcome result }
     {
         match outcome {
             Outcome::Over => Ending::Closes(Verdict::Over),

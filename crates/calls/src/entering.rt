@@ -7,32 +7,21 @@ ghost use Rattle.tally.specs.Rows.{tally_size, signature_place, sum_place};
 ghost use Rattle.calls.specs.Entering.{Placed, RowsOpened, Entered, place_of};
 
 use crate::terms::Terms;
-use field::Field;
+use field::{Field, VALUE_LIMIT};
 use station::Station;
-use tally::{SUM_COUNT, put_signature, put_sum};
+use tally::{put_signature, put_sum};
 use wire::{Asked, Request};
-
-const VALUE_LIMIT: u32 = 1 << 28;
-
-impl Terms {
-    // How many words the rows have.
-    pub(crate) fn tally_size(&self) -> usize
-        ensures { result ≡ tally_size self.now.stations self.now.pages }
-    {
-        self.stations as usize * (self.pages as usize + SUM_COUNT)
-    }
-}
 
 // Clears the rows, and fills row 1 with the signatures of the own copy and their sums.
 pub(crate) fn open_rows<F: Field, S: Station<F>>(own: &S, terms: &Terms, tally: &mut [u32])
-    requires whole { length (S.Station.row own.now) ≡ terms.now.pages }
-    requires room { tally_size terms.now.stations terms.now.pages ≤ length tally.old }
-    ensures { RowsOpened F.Field.ops (S.Station.row own.now) terms.now.stations terms.now.pages (all_sums terms.now.pages terms.now.bound) tally.old tally.new }
+    requires whole { length (S.Station.row own.now) ≡ terms.now.farm.pages }
+    requires room { tally_size terms.now.farm.stations terms.now.farm.pages ≤ length tally.old }
+    ensures { RowsOpened F.Field.ops (S.Station.row own.now) terms.now.farm.stations terms.now.farm.pages (all_sums terms.now.farm.pages terms.now.farm.bound) tally.old tally.new }
 {
-    tally[..terms.tally_size()].fill(0);
-    let pages = terms.pages as usize;
+    tally[..terms.farm.tally_size()].fill(0);
+    let pages = terms.farm.pages;
     fill_signatures::<F, S>(own, pages, tally);
-    fill_sums::<F, S>(own, pages, terms.all_sums() as usize, tally);
+    fill_sums::<F, S>(own, pages, terms.farm.all_sums(), tally);
 }
 
 // Puts the signatures of all pages into row 1.

@@ -34,7 +34,7 @@ impl Book {
         if room < 4 {
             return Err(Refusal::Cramped(Buffer::Other));
         }
-        if station < 2 || station > self.terms.stations {
+        if station < 2 || station > self.terms.farm.stations as u32 {
             return Err(Refusal::Unknown(station));
         }
         if only.is_some_and(|asked| asked != station) {

@@ -16,19 +16,19 @@ impl Book {
     ) -> Result<usize, Refusal>
         ensures { Listing.Listing self.now.terms found station tally.now out.old result out.new }
     {
-        if self.terms.tally_size() > tally.len() {
+        if self.terms.farm.tally_size() > tally.len() {
             return Err(Refusal::Cramped(Buffer::Tally));
         }
         let Some(Verdict::Report) = found else {
             return Err(Refusal::Silent);
         };
-        if station < 1 || station > self.terms.stations {
+        if station < 1 || station > self.terms.farm.stations as u32 {
             return Err(Refusal::Unknown(station));
         }
         list_bad(
             tally,
-            self.terms.stations as usize,
-            self.terms.pages,
+            self.terms.farm.stations,
+            self.terms.farm.pages as u32,
             station as usize,
             out,
         )

@@ -29,16 +29,11 @@ pub(crate) fn accept_terms<F: Field>(
     if number < 1 || number > NUMBER_LIMIT {
         return Err(Refusal::Size(Limit::Number));
     }
-    Farm::<F>::new(stations as usize, pages as usize, bound as usize)?;
-    if own_pages != pages as usize {
+    let farm = Farm::new::<F>(stations as usize, pages as usize, bound as usize)?;
+    if own_pages != farm.pages {
         return Err(Refusal::Size(Limit::OwnCopy));
     }
-    Ok(Terms {
-        number,
-        stations,
-        pages,
-        bound,
-    })
+    Ok(Terms { number, farm })
 }
 
 // The book of a check that was just opened.

@@ -22,7 +22,7 @@ impl Book {
         ensures { Takes F.Field.ops self.old request.now reply.now tally.old result self.new tally.new }
     {
         let values = self.can_take::<F>(request, reply, tally.len())?;
-        enter_values(self.terms.pages as usize, request, values, tally);
+        enter_values(self.terms.farm.pages, request, values, tally);
         self.standings[request.station as usize] = Standing::Heard;
         self.counts.taken += values.len() as u64;
         Ok(())
@@ -40,7 +40,7 @@ impl Book {
             × Reply F.Field.ops request.now reply.now values.now)
             (Refused (taking F.Field.ops self.now request.now reply.now room)) }
     {
-        if self.terms.tally_size() > room {
+        if self.terms.farm.tally_size() > room {
             return Err(Refusal::Cramped(Buffer::Tally));
         }
         if !self.is_out_here(request) {

@@ -2,15 +2,12 @@
 ghost use Rattle.std.specs.Prelude.{◌-◌, ◌^◌};
 ghost use Rattle.refusal.specs.Rules.{Within};
 
+use tally::Farm;
+
 #[derive(Clone, Copy)]
 pub(crate) struct Terms {
+    // of the check, from 1; it fits the 28 bits of a word on the link
     pub(crate) number: u32,
-    pub(crate) stations: u32,
-    pub(crate) pages: u32,
-    // how many stray copies are reckoned with
-    pub(crate) bound: u32,
+    pub(crate) farm: Farm,
     ghost number_in: { Within 1 (2 ^ 28 - 1) number },
-    ghost stations_in: { Within 3 8 stations },
-    ghost pages_in: { Within 1 1920 pages },
-    ghost bound_in: { Within 1 64 bound },
 }

@@ -3,7 +3,6 @@ ghost use Rattle.std.specs.Prelude.{◌≡◌, ◌≤◌, length};
 ghost use Rattle.field.specs.Field.{page_limit};
 ghost use Rattle.refusal.specs.Rules.{Within};
 ghost use Rattle.tally.specs.Rows.{tally_size};
-ghost use Rattle.verdict.specs.Judging;
 ghost use Rattle.calls.specs.declared.standing.Standing.TheVariants.{Done};
 ghost use Rattle.calls.specs.Slips;
 ghost use Rattle.calls.specs.Closing.{Again};
@@ -14,7 +13,7 @@ use crate::ending::Ending;
 use crate::standing::Standing;
 use crate::terms::Terms;
 use field::Field;
-use tally::Outcome;
+use verdict::weigh_farm;
 
 impl Book {
     // The book of the second asking: the station's slip and reply count afresh.
@@ -37,29 +36,14 @@ impl Book {
 impl Terms {
     // What the rows in a plain check, and the sums in any other, end in.
     pub(crate) fn weigh_rows<F: Field>(&self, tally: &mut [u32]) -> Ending
-        requires pages { Within 1 (page_limit F.Field.ops) self.now.pages }
-        requires room { tally_size self.now.stations self.now.pages ≤ length tally.old }
+        requires pages { Within 1 (page_limit F.Field.ops) self.now.farm.pages }
+        requires room { tally_size self.now.farm.stations self.now.farm.pages ≤ length tally.old }
         ensures { WeighedAs F.Field.ops self.now tally.old tally.new result }
     {
-        if self.is_plain() {
+        if self.farm.is_plain() {
             return Ending::Closes(self.close_on(tally));
         }
-        let outcome = self.weigh_sums::<F>(tally);
+        let outcome = weigh_farm::<F>(&self.farm, tally);
         self.ending_of(outcome, tally)
-    }
-
-    // Weighing that cannot be refused.
-    fn weigh_sums<F: Field>(&self, tally: &mut [u32]) -> Outcome
-        requires pages { Within 1 (page_limit F.Field.ops) self.now.pages }
-        requires room { tally_size self.now.stations self.now.pages ≤ length tally.old }
-        ensures { Judging.Weighed F.Field.ops self.now.stations self.now.pages self.now.bound tally.old tally.new result }
-    {
-        verdict::weigh::<F>(
-            self.stations as usize,
-            self.pages as usize,
-            self.bound as usize,
-            tally,
-        )
-        .unwrap()
     }
 }

@@ -40,8 +40,8 @@ use Rattle.desk.proofs.Exchanged.{three_calls, terms_kept, size_kept, heard, oth
 -- what the promise says of calls on a check of cards
 module _ (f : Ops) (laws : Laws f) (spread : Spread f) (promise : EveryRun) (M N bound : ℕ) (words before : List ℕ) (whole : length words ≡ M * N)
     (b : Book) (g : Stage) (after : List ℕ) (stands : Stands b.terms 1 M N bound) (calls : Calls f M N bound words before b g after) where
-  held : FarmHolds f b.terms.stations b.terms.pages (cards f N words)
-  held = by_terms (λ M' N' bound'. FarmHolds f M' N' (cards f N words) → FarmHolds f b.terms.stations b.terms.pages (cards f N words)) b.terms 1 M N bound stands (λ h. h) (cards_held f M N words whole laws)
+  held : FarmHolds f b.terms.farm.stations b.terms.farm.pages (cards f N words)
+  held = by_terms (λ M' N' bound'. FarmHolds f M' N' (cards f N words) → FarmHolds f b.terms.farm.stations b.terms.farm.pages (cards f N words)) b.terms 1 M N bound stands (λ h. h) (cards_held f M N words whole laws)
 
   -- the check's count of what was taken is that of its calls
   pub taken_counted : b.counts.taken ≡ all_calls taken_by calls.calls
@@ -52,7 +52,7 @@ module _ (f : Ops) (laws : Laws f) (spread : Spread f) (promise : EveryRun) (M N
   judged_right =
       let r = (promise f laws spread (cards f N words 1) calls.opened calls.calls b g calls.run).steady (cards f N words) after held calls.steady in (
         r.0,
-        λ given. r.1 (by_terms (λ M' N' bound'. Plain M' N' bound' ⊎ (strays M' (copies (cards f N words)) N' ≤ bound') → PlainTerms b.terms ⊎ (strays b.terms.stations (copies (cards f N words)) b.terms.pages ≤ b.terms.bound))
+        λ given. r.1 (by_terms (λ M' N' bound'. Plain M' N' bound' ⊎ (strays M' (copies (cards f N words)) N' ≤ bound') → PlainTerms b.terms ⊎ (strays b.terms.farm.stations (copies (cards f N words)) b.terms.farm.pages ≤ b.terms.farm.bound))
             b.terms 1 M N bound stands (λ h. h) given),
       )
 
@@ -77,8 +77,8 @@ module _ (f : Ops) (laws : Laws f) (spread : Spread f) (promise : EveryRun) (M N
     -- what the first asking asks for
     first_asked : (d : ℕ) × FirstDue M N bound d
     first_asked = by_terms (λ M N bound. (d : ℕ) × FirstDue M N bound d) b.terms 1 M N bound going.terms (elim going.question [
-      | inl x ↦ (b.terms.pages, inl (x.0, refl))
-      | inr x ↦ (first_sums b.terms.stations b.terms.bound, inr (x.0, refl))
+      | inl x ↦ (b.terms.farm.pages, inl (x.0, refl))
+      | inr x ↦ (first_sums b.terms.farm.stations b.terms.farm.bound, inr (x.0, refl))
     ])
 
     all_taken : all_calls taken_by going.so_far.calls ≡ (M - 1) * first_asked.0
@@ -113,7 +113,7 @@ module _ (f : Ops) (laws : Laws f) (spread : Spread f) (promise : EveryRun) (M N
           elim o.1 [
             | inl hand ↦ there.1.0 hand.2
             | inr x ↦
-                o.2 there.0 (alike_asks o.0 ((one_outcome f laws spread t.stations t.pages t.bound (omega (arith, shape.pages)) (sums f t.pages holds) (sums f t.pages holds) (copies holds 1)
+                o.2 there.0 (alike_asks o.0 ((one_outcome f laws spread t.farm.stations t.farm.pages t.farm.bound (omega (arith, shape.pages)) (sums f t.farm.pages holds) (sums f t.farm.pages holds) (copies holds 1)
                 o.0 (asks there.0)).0 x.1 there.1.1))
           ]
 
@@ -124,7 +124,7 @@ module _ (f : Ops) (laws : Laws f) (spread : Spread f) (promise : EveryRun) (M N
           record {
             way = ByWeighing;
             terms = stands_closed;
-            fits = omega (arith, going.fits, finds_size (WeighEnds f b.terms tally) b.terms.stations b.terms.pages tally after v w.finds);
+            fits = omega (arith, going.fits, finds_size (WeighEnds f b.terms tally) b.terms.farm.stations b.terms.farm.pages tally after v w.finds);
             by_calls = calls_weighed;
             taken = (first_asked.0, first_asked.1, inr (nobody_again, taken_counted f laws spread promise M N bound words before whole b' (closed ByWeighing v) after stands_closed calls_weighed ∙ zero-add _ ∙ all_taken));
             judged = r.0;
@@ -159,44 +159,44 @@ module _ (f : Ops) (laws : Laws f) (spread : Spread f) (promise : EveryRun) (M N
           (let r = (judged_right f laws spread promise M N bound words before whole b' (second k) asked stands_again calls_asked).0 in (r.0, (k, r.1)))
 
       more : first_sums M bound < all_sums N bound
-      more = sums_left f M N bound (sums f N (cards f N words)) (copies (cards f N words) 1) again.1.0 (omega (arith, going.terms.3, b.terms.bound_in)) again.0 again.1.1
+      more = sums_left f M N bound (sums f N (cards f N words)) (copies (cards f N words) 1) again.1.0 (omega (arith, going.terms.3, b.terms.farm.bound_in)) again.0 again.1.1
 
       second_from : b'.question.first ≡ first_sums M bound + 1
-      second_from = w.again.question.1 ∙ by_terms (λ M' N' bound'. first_sums b.terms.stations b.terms.bound + 1 ≡ first_sums M' bound' + 1) b.terms 1 M N bound going.terms refl
+      second_from = w.again.question.1 ∙ by_terms (λ M' N' bound'. first_sums b.terms.farm.stations b.terms.farm.bound + 1 ≡ first_sums M' bound' + 1) b.terms 1 M N bound going.terms refl
 
       second_to : b'.question.last ≡ all_sums N bound
-      second_to = w.again.question.2 ∙ by_terms (λ M' N' bound'. all_sums b.terms.pages b.terms.bound ≡ all_sums N' bound') b.terms 1 M N bound going.terms refl
+      second_to = w.again.question.2 ∙ by_terms (λ M' N' bound'. all_sums b.terms.farm.pages b.terms.farm.bound ≡ all_sums N' bound') b.terms 1 M N bound going.terms refl
 
       second_short : b'.question.last ≤ 128
-      second_short = omega (arith, second_to, going.terms.3, b.terms.bound_in)
+      second_short = omega (arith, second_to, going.terms.3, b.terms.farm.bound_in)
 
       pub second_ready : (row : List ℕ) → Ready row (Some k) k b' (length asked)
       second_ready row = record {
         station = omega (arith, one_of, stands_again.1);
         concerned = refl;
-        free = standing_same b.standings k Free w.again.standings (omega (arith, one_of, b.full, going.terms.1, b.terms.stations_in));
-        few = omega (arith, ap (λ c. c.handed) w.again.counts, going.handed, going.terms.1, b.terms.stations_in);
+        free = standing_same b.standings k Free w.again.standings (omega (arith, one_of, b.full, going.terms.1, b.terms.farm.stations_in));
+        few = omega (arith, ap (λ c. c.handed) w.again.counts, going.handed, going.terms.1, b.terms.farm.stations_in);
         rising = omega (arith, more, second_from, second_to);
         answered = subst (λ asked. b'.question.last ≤ index_limit asked row) (sym w.again.question.0) second_short;
         short = second_short;
-        fits = omega (arith, going.fits, by_terms (λ M N bound. tally_size b'.terms.stations b'.terms.pages ≡ tally_size M N) b'.terms 1 M N bound stands_again refl, ap length w.written);
+        fits = omega (arith, going.fits, by_terms (λ M N bound. tally_size b'.terms.farm.stations b'.terms.farm.pages ≡ tally_size M N) b'.terms 1 M N bound stands_again refl, ap length w.written);
       }
 
       module _ (e : Book) (told : List ℕ) (x : Exchange f (cards f N words k) (Some k) k b' asked e told) where
-        all_heard : (t : ℕ) → Within 2 e.terms.stations t → standing e t ≡ Done
+        all_heard : (t : ℕ) → Within 2 e.terms.farm.stations t → standing e t ≡ Done
         all_heard t within = elim (ℕ_discrete t k) [
           | yes same ↦ ap (standing e) same ∙ heard x
           | no other ↦
               others_stay x t other ∙ standing_other b.standings k Free w.again.standings t other
-              ∙ going.heard t within.0 (omega (arith, within, ap (λ t. t.stations) (terms_kept x), stands_again.0, stands_again.1))
+              ∙ going.heard t within.0 (omega (arith, within, ap (λ t. t.farm.stations) (terms_kept x), stands_again.0, stands_again.1))
         ]
 
         pub settles_ready : (r : Refusal) → Refused (closing e (length told)) r → ⊥
         settles_ready r (inl short) = short.0 (omega (arith, size_kept x, ap length w.written, going.fits, fits_e))
           where
-            fits_e : tally_size e.terms.stations e.terms.pages ≡ tally_size M N
+            fits_e : tally_size e.terms.farm.stations e.terms.farm.pages ≡ tally_size M N
             fits_e =
-                by_terms (λ M N bound. tally_size e.terms.stations e.terms.pages ≡ tally_size M N) e.terms 1 M N bound
+                by_terms (λ M N bound. tally_size e.terms.farm.stations e.terms.farm.pages ≡ tally_size M N) e.terms 1 M N bound
                 (subst (λ t. Stands t 1 M N bound) (sym (terms_kept x)) stands_again) refl
         settles_ready r (inr (_, inl out)) = not_done (standing e (place r)) out.1.1.1 (all_heard (place r) out.1.1.0)
         settles_ready r (inr (_, inr (_, inl lacking))) = lacking.1.1.1 (all_heard (place r) lacking.1.1.0)
@@ -235,7 +235,7 @@ module _ (f : Ops) (laws : Laws f) (spread : Spread f) (promise : EveryRun) (M N
             record {
               way = BySettling k;
               terms = stands_settled;
-              fits = omega (arith, going.fits, ap length w.written, size_kept x, finds_size (SettleEnds f e.terms told) e.terms.stations e.terms.pages told after v s.finds);
+              fits = omega (arith, going.fits, ap length w.written, size_kept x, finds_size (SettleEnds f e.terms told) e.terms.farm.stations e.terms.farm.pages told after v s.finds);
               by_calls = calls_settled;
               taken = (first_asked.0, first_asked.1, inl (again, rest_taken));
               judged = r.0;

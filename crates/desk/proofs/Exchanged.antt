@@ -34,7 +34,7 @@ module _ {f : Ops} {row : List ℕ} {only : Option ℕ} {s : ℕ} {b : Book} {be
   handed_more = ap (λ c. c.handed) (x.returns.1.counts) ∙ ap (λ c. c.handed) (x.takes.1.counts) ∙ ap (λ c. c.handed) (x.slips.1.counts)
 
   inside : x.slip.request.station < length x.taken.standings
-  inside = let within = x.slips.0.1.0 in omega (arith, x.taken.full, b.terms.stations_in, within, station_is)
+  inside = let within = x.slips.0.1.0 in omega (arith, x.taken.full, b.terms.farm.stations_in, within, station_is)
 
   pub heard : standing b' s ≡ Done
   heard =

@@ -24,27 +24,27 @@ use Rattle.desk.specs.Listings.{VerdictText}
 use Rattle.desk.specs.Findings.{RulesFind, TrueFind, ByCalls, FarmText}
 
 module _ (f : Ops) (holds : ℕ → List ℕ) (t : Terms) (tally : List ℕ) (lists : List Call) (text : List ℕ) where
-  rules_found : (v : Verdict) → Ended f t (sums f t.pages holds) (copies holds) tally v → VerdictText t tally v lists text
-      → RulesFind f t.stations t.pages t.bound holds text
+  rules_found : (v : Verdict) → Ended f t (sums f t.farm.pages holds) (copies holds) tally v → VerdictText t tally v lists text
+      → RulesFind f t.farm.stations t.farm.pages t.farm.bound holds text
   rules_found Over judged is = inl (judged, is.1)
   rules_found (Split n) judged is = inr (inl (n, judged, is.1))
   rules_found Report (R, ends, same) listings =
-      let held = signature_in tally t.pages in
+      let held = signature_in tally t.farm.pages in
       inr (inr (
         R,
         ends,
-        lines_listed t tally (Bad t.stations R) (λ s count room out l.
-            listed_as t.pages (Bad t.stations held s) (Bad t.stations R s)
-            (λ n p. bad_same t.stations t.pages R held (λ s n a p. sym (same s n a p)) n p s l.0.1.1.0)
-            (λ n p. bad_same t.stations t.pages held R same n p s l.0.1.1.0) room out count l.1) t.stations lists text listings,
+        lines_listed t tally (Bad t.farm.stations R) (λ s count room out l.
+            listed_as t.farm.pages (Bad t.farm.stations held s) (Bad t.farm.stations R s)
+            (λ n p. bad_same t.farm.stations t.farm.pages R held (λ s n a p. sym (same s n a p)) n p s l.0.1.1.0)
+            (λ n p. bad_same t.farm.stations t.farm.pages held R same n p s l.0.1.1.0) room out count l.1) t.farm.stations lists text listings,
       ))
 
   truth_found : (way : Way) (v : Verdict) → Right (copies holds) t tally (closed way v) → VerdictText t tally v lists text
-      → TrueFind t.stations t.pages holds text
+      → TrueFind t.farm.stations t.farm.pages holds text
   truth_found way Over right is = absurd right
   truth_found way (Split n) right is = inl (n, right.page, right.undecided, is.1)
   truth_found way Report right listings =
-      inr (right.decided, lines_listed t tally (Differs t.stations (copies holds)) (λ s count room out l. right.lists s count room out l) t.stations lists text listings)
+      inr (right.decided, lines_listed t tally (Differs t.farm.stations (copies holds)) (λ s count room out l. right.lists s count room out l) t.farm.stations lists text listings)
 
 module _ (M N bound : ℕ) (words before : List ℕ) (b : Book) (way : Way) (tally : List ℕ) (lists : List Call) (text : List ℕ) where
   by_calls : (v : Verdict) → Calls small M N bound words before b (closed way v) tally → VerdictText b.terms tally v lists text → ByCalls M N bound words text
@@ -73,7 +73,7 @@ module _ (M N bound : ℕ) (words before : List ℕ) (b : Book) (way : Way) (tal
     says = (refl, is.1);
   }
   by_calls Report so listings =
-      let longer = calls_listed small M N bound words before b way tally b.terms.stations lists text listings so in
+      let longer = calls_listed small M N bound words before b way tally b.terms.farm.stations lists text listings so in
       record {
         before = before;
         book = b;
@@ -102,7 +102,7 @@ farm_text M N bound signatures words same before b v after checked lists body sa
       rules =
           by_terms (λ M N' bound. RulesFind small M N' bound holds body) b.terms 1 M N bound checked.terms
           (rules_found small holds b.terms after lists body v
-          (rules_come small b.terms (sums small b.terms.pages holds) (copies holds) after checked.way v checked.judged) says);
+          (rules_come small b.terms (sums small b.terms.farm.pages holds) (copies holds) after checked.way v checked.judged) says);
       truth = λ given.
           by_terms (λ M N' bound. TrueFind M N' holds body) b.terms 1 M N bound checked.terms
           (truth_found small holds b.terms after lists body checked.way v (checked.right given) says);

@@ -52,8 +52,8 @@ calls_listed f M N bound words before b way tally k made text listings so = (
 
 -- what is known of each listing's pages is known of the lines
 pub lines_listed : (t : Terms) (tally : List ℕ) (Q : ℕ → ℕ → Type 0)
-    → ((s count : ℕ) (room out : List ℕ) → Listing t (Some Report) s tally room (Ok count) out → Listed t.pages (Q s) room out count)
-    → (k : ℕ) (made : List Call) (text : List ℕ) → Listings t tally k made text → LinesOf t.pages Q k text
+    → ((s count : ℕ) (room out : List ℕ) → Listing t (Some Report) s tally room (Ok count) out → Listed t.farm.pages (Q s) room out count)
+    → (k : ℕ) (made : List Call) (text : List ℕ) → Listings t tally k made text → LinesOf t.farm.pages Q k text
 lines_listed t tally Q says k made text none_listed = no_station
 lines_listed t tally Q says k made text (one_listed before listing) =
-    one_more (lines_listed t tally Q says _ _ _ before) (listed_first t.pages (Q _) _ _ _ (says _ _ _ _ listing))
+    one_more (lines_listed t tally Q says _ _ _ before) (listed_first t.farm.pages (Q _) _ _ _ (says _ _ _ _ listing))

@@ -25,16 +25,16 @@ module _ (N : ℕ) (Q : ℕ → Type 0) (xs : List ℕ) (l : Lists N Q xs) where
         omega (arith, page_least i h, (l.each i h).0)
   ]
 
-report_listed : (t : Terms) (s : ℕ) (tally : List ℕ) (room : ℕ) → tally_size t.stations t.pages ≤ length tally → Within 1 t.stations s → t.pages ≤ room
+report_listed : (t : Terms) (s : ℕ) (tally : List ℕ) (room : ℕ) → tally_size t.farm.stations t.farm.pages ≤ length tally → Within 1 t.farm.stations s → t.farm.pages ≤ room
     → (e : Refusal) → Refused (listing t (Some Report) s tally room) e → ⊥
 report_listed t s tally room fits station many e (inl x) = x.0 fits
 report_listed t s tally room fits station many e (inr (_, inl x)) = x.0 (let same : ◌≡◌ {A = _} (Some Report) (Some Report) = refl in same)
 report_listed t s tally room fits station many e (inr (_, inr (_, inl x))) = x.0 station
 report_listed t s tally room fits station many e (inr (_, inr (_, inr (_, inl x)))) =
-    omega (arith, many, x.0.2, lists_short t.pages _ x.0.0 x.0.1)
+    omega (arith, many, x.0.2, lists_short t.farm.pages _ x.0.0 x.0.1)
 report_listed t s tally room fits station many e (inr (_, inr (_, inr (_, inr x)))) = x.1
 
-pub list_ok : (t : Terms) (s : ℕ) (tally before after : List ℕ) (r : Result ℕ Refusal) → tally_size t.stations t.pages ≤ length tally → Within 1 t.stations s
-    → t.pages ≤ length before → Listing t (Some Report) s tally before r after → IsOk r
+pub list_ok : (t : Terms) (s : ℕ) (tally before after : List ℕ) (r : Result ℕ Refusal) → tally_size t.farm.stations t.farm.pages ≤ length tally → Within 1 t.farm.stations s
+    → t.farm.pages ≤ length before → Listing t (Some Report) s tally before r after → IsOk r
 list_ok t s tally before after (Ok count) fits station many x = refl
 list_ok t s tally before after (Err e) fits station many x = absurd (report_listed t s tally (length before) fits station many e x.0)

@@ -63,12 +63,12 @@ module _ {row : List ℕ} {only : Option ℕ} {s : ℕ} {b : Book} {room : ℕ} 
     )
 
     stands_out : standing b1 slip.request.station ≡ Out
-    stands_out = ap (standing b1) station_named ∙ standing_same b.standings s Out out.standings (omega (arith, r.station, b.full, b.terms.stations_in))
+    stands_out = ap (standing b1) station_named ∙ standing_same b.standings s Out out.standings (omega (arith, r.station, b.full, b.terms.farm.stations_in))
 
     module _ (f : Ops) (laws : Laws f) (agree : EndsAgree) (codes : (k : ℕ) → entry row k < f.size) (words : List ℕ)
         (told : words ≡ reply_words slip.request (answers f row slip.request)) where
       pub takes_ready : (e : Refusal) → Refused (taking f b1 slip.request words room) e → ⊥
-      takes_ready e (inl x) = x.0 (subst (λ t. tally_size t.stations t.pages ≤ room) (sym out.keeps.terms) r.fits)
+      takes_ready e (inl x) = x.0 (subst (λ t. tally_size t.farm.stations t.farm.pages ≤ room) (sym out.keeps.terms) r.fits)
       takes_ready e (inr (_, inl x)) = x.0 (asks_here b1 out.keeps.terms out.keeps.question, inl stands_out)
       takes_ready e (inr (_, inr (_, inl x))) = absurd (let a = x.0 in let f = stands_out in cc)
       takes_ready e (inr (_, inr (_, inr (_, read)))) =
@@ -86,7 +86,7 @@ module _ {row : List ℕ} {only : Option ℕ} {s : ℕ} {b : Book} {room : ℕ} 
       module _ {b2 : Book} {before after : List ℕ} (took : TakesIn f b1 slip.request words before b2 after) where
         stands_heard : standing b2 slip.request.station ≡ Heard
         stands_heard =
-            standing_same b1.standings slip.request.station Heard took.standings (omega (arith, station_named, r.station, b1.full, b.terms.stations_in))
+            standing_same b1.standings slip.request.station Heard took.standings (omega (arith, station_named, r.station, b1.full, b.terms.farm.stations_in))
 
         pub returns_ready : (e : Refusal) → Refused (returning b2 slip.request) e → ⊥
         returns_ready e (inl x) = x.0 (asks_here b2 (took.keeps.terms ∙ out.keeps.terms) (took.keeps.question ∙ out.keeps.question), inr stands_heard)

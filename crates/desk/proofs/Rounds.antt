@@ -29,11 +29,11 @@ module _ (f : Ops) (M N bound : ℕ) (words before : List ℕ) (next : ℕ) (b :
     station = omega (arith, stands.1);
     concerned = record {};
     free = going.free next (omega arith) (omega arith);
-    few = omega (arith, going.handed, b.terms.stations_in, stands.1);
+    few = omega (arith, going.handed, b.terms.farm.stations_in, stands.1);
     rising = first_rising b.terms b.question going.question;
     answered = first_answered b.terms b.question going.question row (size ∙ sym stands.2);
     short = first_short b.terms b.question going.question;
-    fits = by_terms (λ M N bound. tally_size M N ≤ length tally → tally_size b.terms.stations b.terms.pages ≤ length tally) b.terms 1 M N bound stands (λ le. le) going.fits;
+    fits = by_terms (λ M N bound. tally_size M N ≤ length tally → tally_size b.terms.farm.stations b.terms.farm.pages ≤ length tally) b.terms 1 M N bound stands (λ le. le) going.fits;
   }
 
   module _ (row : List ℕ) (is : cards f N words next ≡ row) (b' : Book) (after : List ℕ) (x : Exchange f row None next b tally b' after) where

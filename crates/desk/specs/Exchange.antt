@@ -13,14 +13,14 @@ use Rattle.calls.specs.Slips.{Slips, Takes, Returns, Concerns, standing}
 
 -- a slip can be handed out for station s, its station answers the question, and the reply fits the tally
 pub record Ready (row : List ℕ) (only : Option ℕ) (s : ℕ) (b : Book) (room : ℕ) : Type 0 where
-  pub station : Within 2 b.terms.stations s
+  pub station : Within 2 b.terms.farm.stations s
   pub concerned : Concerns only s
   pub free : standing b s ≡ Free
   pub few : b.counts.handed < 2 ^ 32 - 1
   pub rising : b.question.first ≤ b.question.last
   pub answered : b.question.last ≤ index_limit b.question.asked row
   pub short : b.question.last ≤ 128
-  pub fits : tally_size b.terms.stations b.terms.pages ≤ room
+  pub fits : tally_size b.terms.farm.stations b.terms.farm.pages ≤ room
 
 -- what the three calls make of a check and its tally
 pub record Exchange (f : Ops) (row : List ℕ) (only : Option ℕ) (s : ℕ) (b : Book) (before : List ℕ) (b' : Book) (after : List ℕ) : Type 0 where

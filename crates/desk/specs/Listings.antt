@@ -18,4 +18,4 @@ pub data Listings (t : Terms) (tally : List ℕ) : (k : ℕ) → List Call → (
 abbrev pub VerdictText : Terms → (tally : List ℕ) → Verdict → List Call → (text : List ℕ) → Type 0
 VerdictText t tally Over calls text = (calls ≡ []) × (text ≡ over_line)
 VerdictText t tally (Split n) calls text = (calls ≡ []) × (text ≡ split_line n)
-VerdictText t tally Report calls text = Listings t tally t.stations calls text
+VerdictText t tally Report calls text = Listings t tally t.farm.stations calls text

@@ -1,6 +1,8 @@
 // All the bytes that a desk writes for the bytes of a farm.
 ghost use Rattle.std.specs.Prelude.{◌≡◌, ◌*◌, ◌≤◌, [], length, IsOk, MatchResult};
-ghost use Rattle.refusal.specs.Rules.{Refused, Accepted};
+ghost use Rattle.field.specs.Field.{page_limit};
+ghost use Rattle.binary.specs.Binary.{small};
+ghost use Rattle.refusal.specs.Rules.{Refused, Accepted, Within};
 ghost use Rattle.lines.specs.Text.{Answers};
 ghost use Rattle.desk.specs.Findings.{reading, stations_of, pages_of, bound_of, FarmText, FindingsText};
 
@@ -47,15 +49,16 @@ fn put_findings(text: &mut Text<FINDINGS_ROOM>, input: &[u8]) -> Option<Refusal>
 }
 
 // The numbers of a farm that all bytes are there of.
-fn read_farm(input: &[u8]) -> Result<Farm<Small>, Refusal>
+fn read_farm(input: &[u8]) -> Result<Farm, Refusal>
     ensures { MatchResult result
-        (λ farm. Accepted (reading input.now) × (farm.stations ≡ stations_of input.now) × (farm.pages ≡ pages_of input.now) × (farm.bound ≡ bound_of input.now))
+        (λ farm. Accepted (reading input.now) × (farm.stations ≡ stations_of input.now) × (farm.pages ≡ pages_of input.now)
+        × (farm.bound ≡ bound_of input.now) × Within 1 (page_limit small) farm.pages)
         (Refused (reading input.now)) }
 {
     let [stations, pages, bound, ..] = input else {
         return Err(Refusal::Garbled(input.len() + 1));
     };
-    let farm = Farm::new(
+    let farm = Farm::new::<Small>(
         usize::from(*stations),
         usize::from(*pages),
         usize::from(*bound),
@@ -65,15 +68,16 @@ fn read_farm(input: &[u8]) -> Result<Farm<Small>, Refusal>
 }
 
 // What is found, and the count of sums.
-fn put_farm(text: &mut Text<FINDINGS_ROOM>, farm: &Farm<Small>, signatures: &[u8])
+fn put_farm(text: &mut Text<FINDINGS_ROOM>, farm: &Farm, signatures: &[u8])
     requires none { text.old ≡ [] }
+    requires narrow { Within 1 (page_limit small) farm.now.pages }
     requires whole { length signatures.now ≡ farm.now.stations * farm.now.pages }
     ensures { FarmText farm.now.stations farm.now.pages farm.now.bound signatures.now text.new }
 {
     let mut words = ArrayVec::<u32, WORD_ROOM>::new();
     widen(signatures, &mut words);
     let mut tally = [0; TALLY_ROOM];
-    let check = check_cards(farm, words.as_slice(), &mut tally).unwrap();
+    let check = check_cards::<Small>(farm, words.as_slice(), &mut tally).unwrap();
     put_verdict(text, farm.stations as u32, &check, &tally);
     line::put_sums(text, check.counts().taken);
 }

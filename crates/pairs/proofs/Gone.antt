@@ -2,7 +2,7 @@
 use Rattle.std.proofs.Common.{◌≡◌, ℕ, ◌+◌, ◌<◌, ◌≤◌, ◌≢◌, ◌⊎◌, inl, inr, List, get_or, sym, ap, ◌∙◌, arith, subst}
 use native.Mathlib.Decide.{ℕ_discrete, dec_lt}
 use Rattle.solve.specs.declared.Entry.{Entry}
-use Rattle.solve.specs.Answer.{blank, code_at, Listed}
+use Rattle.solve.specs.Answer.{blank, code_at, Entries}
 use Rattle.solve.proofs.Listings.{code_at_none, code_at_first}
 
 -- the entries before place k are of pages below p, the others of the first m are not
@@ -11,7 +11,7 @@ pub record Passed (m : ℕ) (list : List Entry) (k p : ℕ) : Type 0 where
   pub before : (i : ℕ) → i < k → (get_or list i blank).page < p
   pub after : (i : ℕ) → k ≤ i → i < m → p ≤ (get_or list i blank).page
 
-module _ (N m : ℕ) (list : List Entry) (h : Listed N m list) where
+module _ (N m : ℕ) (list : List Entry) (h : Entries N m list) where
   pub none_passed : Passed m list 0 1
   none_passed = record { few = omega arith; before = λ i lt. absurd (omega arith); after = λ i from to. (h.pages i to).0 }
 

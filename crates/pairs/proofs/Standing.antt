@@ -6,7 +6,7 @@ use borrow.Author.Tests.{both_ways}
 use Rattle.field.specs.Field.{Ops, Laws, Spread}
 use Rattle.algebra.specs.Vectors.{weight}
 use Rattle.solve.specs.declared.Entry.{Entry}
-use Rattle.solve.specs.Answer.{code_at, Listed}
+use Rattle.solve.specs.Answer.{code_at, Entries}
 use Rattle.scheme.specs.Farm.{Table}
 use Rattle.scheme.specs.Pairs.{Pair, Disjoint}
 use Rattle.scheme.specs.Differences.{gap, Solution, Unsolved, Suspect}
@@ -71,7 +71,7 @@ module _ {f : Ops} (laws : Laws f) (spread : Spread f) (N h : ℕ) (T : Table) (
     none_by None list a e = a
 
     some_by : (o : Option ℕ) (list : List Entry) → AnsweredBy f N (h / 2) h (gap f T s t) o list → is_none o ≡ false →
-        Solution f N h T s t (code_at list) × ((e : ℕ → ℕ) → Solution f N h T s t e → weight N e ≡ unwrap_or o 0) × Listed N (unwrap_or o 0) list
+        Solution f N h T s t (code_at list) × ((e : ℕ → ℕ) → Solution f N h T s t e → weight N e ≡ unwrap_or o 0) × Entries N (unwrap_or o 0) list
     some_by (Some m) list a e = (a.solves, a.weighs, a.listed)
     some_by None list a e = absurd (both_ways true e refl)
 
@@ -84,8 +84,8 @@ module _ {f : Ops} (laws : Laws f) (spread : Spread f) (N h : ℕ) (T : Table) (
     some (Some x) a e = let b = some_by x.weight x.list a e in (b.0, b.1)
     some None a e = absurd a
 
-    list_of : (o : Option Difference) → AnsweredIn f N h T s t o → is_none (solved_weight o) ≡ false → (x : Difference) → o ≡ Some x → Listed N (unwrap_or (solved_weight o) 0) x.list
-    list_of (Some y) a e x is = subst (λ (z : Difference). Listed N (unwrap_or y.weight 0) z.list) (let q : y ≡ x = cc in q) (some_by y.weight y.list a e).2
+    list_of : (o : Option Difference) → AnsweredIn f N h T s t o → is_none (solved_weight o) ≡ false → (x : Difference) → o ≡ Some x → Entries N (unwrap_or (solved_weight o) 0) x.list
+    list_of (Some y) a e x is = subst (λ (z : Difference). Entries N (unwrap_or y.weight 0) z.list) (let q : y ≡ x = cc in q) (some_by y.weight y.list a e).2
     list_of None a e x is = absurd a
 
   solution : (s t : ℕ) → Pair M s t → unsolved_in g s t ≡ false → Solution f N h T s t (D s t)

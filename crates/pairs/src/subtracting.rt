@@ -1,6 +1,6 @@
 // A row minus a solved difference.
 ghost use Rattle.std.specs.Prelude.{ℕ};
-ghost use Rattle.solve.specs.Answer.{code_at, Listed};
+ghost use Rattle.solve.specs.Answer.{code_at, Entries};
 ghost use Rattle.tally.specs.Rows.{signature_in, RowPut};
 
 use field::Field;
@@ -16,7 +16,7 @@ pub fn put_minus<F: Field>(
     to: usize,
     list: &[Entry; 129],
 )
-    requires { (count : ℕ) × Listed farm.now.pages count list.now }
+    requires { (count : ℕ) × Entries farm.now.pages count list.now }
     ensures { RowPut farm.now.pages farm.now.pages to tally.old tally.new
         (λ n. F.Field.ops.minus (signature_in tally.old farm.now.pages from n) (code_at list.now n)) }
 {

@@ -7,7 +7,7 @@ use Rattle.scheme.specs.Differences.{gap}
 use Rattle.scheme.specs.Farm.{Table}
 use Rattle.scheme.specs.Three.{FromFirst}
 use Rattle.scheme.specs.Askings.{all_sums}
-use Rattle.solve.specs.Answer.{code_at, Listed}
+use Rattle.solve.specs.Answer.{code_at, Entries}
 use Rattle.tally.specs.Rows.{sum_in}
 use Rattle.pairs.specs.Difference.{AnsweredBy}
 
@@ -19,7 +19,7 @@ module _ (f : Ops) (N bound : ℕ) (T : Table) (k : ℕ) where
   anew_none (Some m) list a e = absurd (cc)
   anew_none None list a e = a
 
-  pub anew_some : (o : Option ℕ) (list : List Entry) → Anew o list → is_some o ≡ true → FromFirst f N bound T k (code_at list) × Listed N (unwrap_or o 0) list
+  pub anew_some : (o : Option ℕ) (list : List Entry) → Anew o list → is_some o ≡ true → FromFirst f N bound T k (code_at list) × Entries N (unwrap_or o 0) list
   anew_some (Some m) list a e = (a.solves, a.listed)
   anew_some None list a e = absurd (cc)
 

@@ -3,7 +3,7 @@ use Rattle.std.proofs.Common.{◌≡◌, ℕ, false, is_none, Some, None, Option
 use Rattle.std.specs.Option.{unwrap_or}
 use Rattle.field.specs.Field.{Ops}
 use Rattle.algebra.specs.Vectors.{weight}
-use Rattle.solve.specs.Answer.{code_at, Listed}
+use Rattle.solve.specs.Answer.{code_at, Entries}
 use Rattle.scheme.specs.Farm.{Table}
 use Rattle.scheme.specs.Askings.{first_sums}
 use Rattle.scheme.specs.Pairs.{Pair}
@@ -52,7 +52,7 @@ module _ (f : Ops) (N bound : ℕ) (T : Table) (g : PairGaps) (solved : PairsSol
         first = λ u v d p z less. let w = weighs u v d p z in omega (arith, own, w.2, l.foremost u v w.0 p w.1 less);
       }
 
-      pub is_listed : Listed N (weight_in g x.first x.second) y.list
+      pub is_listed : Entries N (weight_in g x.first x.second) y.list
       is_listed = solved.listed x.first x.second y l.pair some_weight is
 
     -- some difference is held of it

@@ -27,7 +27,7 @@ fn check_four(bound: usize, words: &[u32]) -> Check<Prime, Closed>
     requires whole { length words.now ≡ 12 }
     ensures { (before after : List ℕ) × Checked 4 3 bound prime words.now before result.book result.phase.verdict after }
 {
-    let farm = match Farm::<Prime>::new(STATIONS, PAGES, bound) {
+    let farm = match Farm::new::<Prime>(STATIONS, PAGES, bound) {
         Ok(farm) => farm,
         Err(_) => unreachable(),
     };

@@ -7,7 +7,7 @@ use Rattle.calls.proofs.book.Book.lowest_lacking.Goals as goal
 
 pub returns : goal.returns
 returns c =
-    let M = c.args.self.now.terms.stations in
+    let M = c.args.self.now.terms.farm.stations in
     let P = λ (s : ℕ). standing c.args.self.now s ≢ Done in
     lowest_station M P c.find.result (first_from _ _ 2 M P (λ s. ¬ P s) c.new.ensures.start c.new.ensures.end c.new.ensures.exhausted
     c.find.result c.find.ensures.ran (λ x q p. search rules) (λ x q p. search rules))

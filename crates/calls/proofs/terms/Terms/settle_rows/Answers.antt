@@ -3,5 +3,5 @@ use Rattle.calls.proofs.terms.Terms.settle_rows.Goals as goal
 
 pub returns : goal.returns
 returns g c =
-    settled_found g.F.Field.ops c.args.self.now c.args.tally.now c.settle_sums-outcome.new.tally c.settle_sums-outcome.result c.in-Closes.verdict
-    c.settle_sums-outcome.ensures c.in-Closes.ensures
+    settled_found g.F.Field.ops c.args.self.now c.args.tally.now c.settle_farm-outcome.new.tally c.settle_farm-outcome.result c.in-Closes.verdict
+    c.settle_farm-outcome.ensures c.in-Closes.ensures

@@ -10,12 +10,12 @@ returns-then-is_plain g c =
 pub ending_of-requires : goal.ending_of-requires
 ending_of-requires g c = λ k is.
     let asked =
-    weighing_asks g.F.Field.ops c.args.self.now c.args.tally.now c.weigh_sums-outcome.new.tally g.met.F.Field.lawful g.met.F.Field.spread c.requires.pages.1
-    c.weigh_sums-outcome.result c.weigh_sums-outcome.ensures k is
+    weighing_asks g.F.Field.ops c.args.self.now c.args.tally.now c.weigh_farm-outcome.new.tally g.met.F.Field.lawful g.met.F.Field.spread c.requires.pages.1
+    c.weigh_farm-outcome.result c.weigh_farm-outcome.ensures k is
     in
-    omega (arith, asked, c.args.self.now.stations_in)
+    omega (arith, asked, c.args.self.now.farm.stations_in)
 
 pub returns : goal.returns
 returns g c =
-    weighed_found g.F.Field.ops c.args.self.now c.args.tally.now c.weigh_sums-outcome.new.tally g.met.F.Field.lawful g.met.F.Field.spread c.requires.pages.1
-    (λ plain. false≢true (sym c.if-is_plain.false ∙ c.is_plain.ensures.1 plain)) c.weigh_sums-outcome.result c.ending_of.result c.weigh_sums-outcome.ensures c.ending_of.ensures
+    weighed_found g.F.Field.ops c.args.self.now c.args.tally.now c.weigh_farm-outcome.new.tally g.met.F.Field.lawful g.met.F.Field.spread c.requires.pages.1
+    (λ plain. false≢true (sym c.if-is_plain.false ∙ c.is_plain.ensures.1 plain)) c.weigh_farm-outcome.result c.ending_of.result c.weigh_farm-outcome.ensures c.ending_of.ensures
