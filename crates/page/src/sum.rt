@@ -6,18 +6,20 @@ ghost use Rattle.page.specs.Pages.{page_signature};
 use crate::page::page_signature;
 use field::Field;
 
-/// Sum j of a row of signatures, page 1 first: the total of each signature times alpha^(j n), n the page. Words count modulo the field's size.
+/// Sum j of a row of signatures, page 1 first: the total of each signature times alpha^(j n), n the page.
+/// Words count modulo the field's size.
 pub fn row_sum<F: Field>(row: &[u32], j: usize) -> u32
     ensures { result ≡ power_sum F.Field.ops (length row.now) (entry row.now) j }
 {
     sum_of::<F, _>(row.len(), |page| row[page - 1], j)
 }
 
-/// Sum j of the signatures of the pages 1 to `pages` of a job, with pages of this length: it signs each of them.
-pub fn job_sum<F: Field>(job: &[u8], length: usize, pages: usize, j: usize) -> u32
-    ensures { result ≡ power_sum F.Field.ops pages (page_signature F.Field.ops length job.now) j }
+/// Sum j of the signatures of the pages 1 to `pages` of a job, with pages of this length: it signs each of
+/// them.
+pub fn job_sum<F: Field>(job: &[u8], page_length: usize, pages: usize, j: usize) -> u32
+    ensures { result ≡ power_sum F.Field.ops pages (page_signature F.Field.ops page_length job.now) j }
 {
-    sum_of::<F, _>(pages, |page| page_signature::<F>(job, length, page), j)
+    sum_of::<F, _>(pages, |page| page_signature::<F>(job, page_length, page), j)
 }
 
 // Sum j of what is told of the pages 1 to `pages`.
