@@ -8,12 +8,14 @@ pub fn vanishing()
     ensures { Vanishing }
 {}
 
-/// A theorem: two vectors with the same sums 1 to J are equal, if their weights add up to at most J or J is at least the number of pages.
+/// A theorem: two vectors with the same sums 1 to J are equal, if their weights add up to at most J or J is
+/// at least the number of pages.
 pub fn unique()
     ensures { Unique }
 {}
 
-/// A theorem: two different vectors with the same sums 1 to J have weights that add up to more than J, and J is less than the number of pages.
+/// A theorem: two different vectors with the same sums 1 to J have weights that add up to more than J, and
+/// J is less than the number of pages.
 pub fn far()
     ensures { Far }
 {}

@@ -3,7 +3,8 @@ ghost use Rattle.std.specs.Prelude.{◌≡◌, ℕ, ◌^◌, IfSome};
 ghost use Rattle.field.specs.Field.{Laws, Spread, power};
 ghost use Rattle.binary.specs.Binary.{Degree, binary};
 
-/// A polynomial over two elements, which makes a field of the words of WIDTH bits (docs/RULES.md, "Fields"). An implementation shows that it does.
+/// A polynomial over two elements, which makes a field of the words of WIDTH bits (docs/RULES.md,
+/// "Fields"). An implementation shows that it does.
 pub trait Modulus {
     /// The degree of the polynomial, from 2 to 31.
     const WIDTH: u32;

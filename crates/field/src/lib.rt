@@ -10,15 +10,17 @@ mod limits;
 pub use code::words_count_modulo;
 pub use limits::{PAGE_LIMIT, SUM_LIMIT, VALUE_LIMIT, page_limit};
 
-/// A finite field. Its elements are codes, 0 to SIZE - 1; a call takes any word, counts it modulo SIZE, and gives a code.
-/// Three fields are here, `small`, `wide` and `prime` (docs/RULES.md, "Fields"); another one shows the laws `named`, `lawful` and `spread`.
+/// A finite field. Its elements are codes, 0 to SIZE - 1; a call takes any word, counts it modulo SIZE, and
+/// gives a code. Three fields are here, `small`, `wide` and `prime` (docs/RULES.md, "Fields"); another one
+/// shows the laws `named`, `lawful` and `spread`.
 pub trait Field {
     /// How many elements the field has, from 256 to 2^28.
     const SIZE: u32;
 
     ghost SIZE: { ℕ };
 
-    /// How many places for pages it has: so many powers of alpha, from the first on, are different. A job has at most 1,920 pages even so.
+    /// How many places for pages it has: so many powers of alpha, from the first on, are different. A job
+    /// has at most 1,920 pages even so.
     const PLACES: usize;
 
     ghost PLACES: { ℕ };

@@ -10,7 +10,8 @@ pub const VALUE_LIMIT: u32 = 1 << 28;
 /// The most pages that a job has in any field.
 pub const PAGE_LIMIT: usize = 1920;
 
-/// The sums of a row are counted from 1 to this: so many a station tells, a tally keeps, and a difference is solved from at most.
+/// The sums of a row are counted from 1 to this: so many a station tells, a tally keeps, and a difference
+/// is solved from at most.
 pub const SUM_LIMIT: usize = 128;
 
 /// The most pages that a job has in this field: 1,920, or the field's places if they are fewer.

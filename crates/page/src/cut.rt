@@ -9,8 +9,9 @@ use refusal::{Limit, Refusal};
 /// The longest page, in bytes.
 pub const PAGE_LENGTH_LIMIT: usize = 4096;
 
-/// The cut of a job of so many bytes into pages, counted from 1: each has `page_length` bytes, but the last, which may have fewer.
-/// Whoever holds pages, to read or to replace, takes their number, places and lengths from here (docs/RULES.md, "Pages and signatures").
+/// The cut of a job of so many bytes into pages, counted from 1: each has `page_length` bytes, but the
+/// last, which may have fewer. Whoever holds pages, to read or to replace, takes their number, places and
+/// lengths from here (docs/RULES.md, "Pages and signatures").
 #[derive(Clone, Copy, PartialEq, Eq, Debug)]
 pub struct Cut {
     bytes: usize,
@@ -24,11 +25,12 @@ impl Cut {
     ghost use Rattle.refusal.specs.Rules.{Within, Accepted, Refused};
     ghost use Rattle.page.specs.Pages.{cutting};
 
-    /// The cut of a job of so many bytes. Refused: a page length outside 1 to 4,096 (1, place 7), then fewer than 1 or too many
-    /// pages for the field (1, place 3).
+    /// The cut of a job of so many bytes. Refused: a page length outside 1 to 4,096 (1, place 7), then
+    /// fewer than 1 or too many pages for the field (1, place 3).
     pub fn new<F: Field>(bytes: usize, page_length: usize) -> Result<Cut, Refusal>
         ensures { MatchResult result
-            (λ cut. Accepted (cutting F.Field.ops page_length bytes) × (cut.bytes ≡ bytes) × (cut.page_length ≡ page_length))
+            (λ cut. Accepted (cutting F.Field.ops page_length bytes)
+            × (cut.bytes ≡ bytes) × (cut.page_length ≡ page_length))
             (Refused (cutting F.Field.ops page_length bytes)) }
     {
         if page_length < 1 || page_length > PAGE_LENGTH_LIMIT {
@@ -65,12 +67,14 @@ impl Cut {
         start_of_page(self.bytes, self.page_length, page)
     }
 
-    /// How many bytes of its own a page has: the page length, but for the last page what is left, and none for a page that the job does not have.
+    /// How many bytes of its own a page has: the page length, but for the last page what is left, and none
+    /// for a page that the job does not have.
     pub fn length_of(&self, page: usize) -> usize
         ensures is { result ≡ own_length self.now.page_length self.now.bytes page }
         ensures whole { 1 ≤ page → page < self.now.pages → result ≡ self.now.page_length }
         ensures last { 1 ≤ page → page ≡ self.now.pages
-            → Within 1 self.now.page_length result × ((page - 1) * self.now.page_length + result ≡ self.now.bytes) }
+            → Within 1 self.now.page_length result
+            × ((page - 1) * self.now.page_length + result ≡ self.now.bytes) }
     {
         length_of_page(self.bytes, self.page_length, page)
     }

@@ -8,7 +8,8 @@ ghost use Rattle.prime.specs.Laws.{prime_laws, prime_spread};
 
 use field::{Field, PAGE_LIMIT};
 
-/// The field of 65,537 elements: the whole numbers modulo that prime, with alpha = 3 and room for 1,920 pages.
+/// The field of 65,537 elements: the whole numbers modulo that prime, with alpha = 3 and room for 1,920
+/// pages.
 pub struct Prime;
 
 const MODULUS: u64 = 65537;

@@ -10,7 +10,8 @@ mod theorems;
 use std::fmt;
 pub use theorems::{Ruled, exclusive};
 
-/// Why a call did nothing. Operators and other programs are told its number and its place (docs/RULES.md, "Refusals").
+/// Why a call did nothing. Operators and other programs are told its number and its place (docs/RULES.md,
+/// "Refusals").
 #[derive(Clone, Copy, PartialEq, Eq, Debug)]
 pub enum Refusal {
     /// 1: a number is outside its limits; the place says which number.
@@ -33,7 +34,8 @@ pub enum Refusal {
     Foreign(usize),
     /// 10: no slip with this request is out here.
     Stray(u32),
-    /// 11, place 0: an index is outside its range, or the first is above the last; or no more slips can be counted.
+    /// 11, place 0: an index is outside its range, or the first is above the last; or no more slips can be
+    /// counted.
     Range,
     /// 12, place 0: there is no report to list.
     Silent,
@@ -89,7 +91,8 @@ impl Refusal {
         }
     }
 
-    /// Where: a limit, a buffer, a station or a position, as each case says; 0 where there is nothing to point at.
+    /// Where: a limit, a buffer, a station or a position, as each case says; 0 where there is nothing to
+    /// point at.
     pub fn place(self) -> usize
         ensures { result ≡ Numbers.place self }
     {

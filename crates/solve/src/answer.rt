@@ -13,11 +13,12 @@ use crate::verify::verified;
 use field::{Field, SUM_LIMIT};
 use refusal::{Limit, Refusal};
 
-/// Seeks the codes of the pages 1 to `pages`, at most `weight` of them not 0, whose sums 1, 2, .. are the values
-/// (docs/RULES.md, "Solving a difference"). Some: how many are not 0; they stand in the list, page by page, with page 0 in all places
-/// after. None: there are no such codes, and the list is what it was. Refused: the number of pages (1, place 3); the number of
-/// values, if they are more than 128, or neither as many as the pages nor twice the weight (1, place 6); the first value that is no
-/// code (8). The list is then what it was. It needs no heap, and time in proportion to pages and values.
+/// Seeks the codes of the pages 1 to `pages`, at most `weight` of them not 0, whose sums 1, 2, .. are the
+/// values (docs/RULES.md, "Solving a difference"). Some: how many are not 0; they stand in the list, page
+/// by page, with page 0 in all places after. None: there are no such codes, and the list is what it was.
+/// Refused: the number of pages (1, place 3); the number of values, if they are more than 128, or neither
+/// as many as the pages nor twice the weight (1, place 6); the first value that is no code (8). The list is
+/// then what it was. It needs no heap, and time in proportion to pages and values.
 pub fn solve<F: Field>(
     pages: usize,
     values: &[u32],
@@ -41,7 +42,9 @@ pub fn solve<F: Field>(
 
 // Refuses what cannot be solved.
 fn accept<F: Field>(pages: usize, values: &[u32], weight: usize) -> Result<(), Refusal>
-    ensures { MatchResult result (λ _. Accepted (solving F.Field.ops pages weight values.now)) (Refused (solving F.Field.ops pages weight values.now)) }
+    ensures { MatchResult result
+        (λ _. Accepted (solving F.Field.ops pages weight values.now))
+        (Refused (solving F.Field.ops pages weight values.now)) }
 {
     page::accept_pages::<F>(pages)?;
     let enough = values.len() == pages || weight <= values.len() / 2;

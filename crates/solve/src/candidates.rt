@@ -35,11 +35,13 @@ pub(crate) fn choose<F: Field>(
 // The pages of 1 to `pages`, rising, at whose points the locator is 0.
 fn roots<F: Field>(locator: &[u32], pages: usize) -> ArrayVec<Candidate, SUM_LIMIT>
     requires { FewRoots F.Field.ops (value F.Field.ops (length locator.now) (at locator.now) 0) pages }
-    ensures { Roots F.Field.ops (value F.Field.ops (length locator.now) (at locator.now) 0) pages result.items }
+    ensures { Roots F.Field.ops
+        (value F.Field.ops (length locator.now) (at locator.now) 0) pages result.items }
 {
     let mut found = ArrayVec::new();
     let mut point = 1;
-    // From 0: what is found so far is of the first `before` pages; with 1..=pages the last turn is proved apart.
+    // From 0: what is found so far is of the first `before` pages; with 1..=pages the last turn is proved
+    // apart.
     for before in 0..pages {
         point = F::mul(point, F::ALPHA);
         if evaluate::<F>(locator, point) == 0 {

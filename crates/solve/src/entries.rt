@@ -16,16 +16,19 @@ pub(crate) struct Coded {
     pub code: u32,
 }
 
-// A code for each candidate: what each vector has there that has the values for its first sums and is 0 elsewhere.
+// A code for each candidate: what each vector has there that has the values for its first sums and is 0
+// elsewhere.
 pub(crate) fn interpolate<F: Field>(
     candidates: &ArrayVec<Candidate, SUM_LIMIT>,
     values: &[u32],
 ) -> ArrayVec<Coded, SUM_LIMIT>
     requires { length candidates.now.items ≤ length values.now }
     ensures candidates { candidates_of result.items ≡ candidates.now.items }
-    ensures codes { (i : ℕ) → i < length candidates.now.items → at (codes_of result.items) i < F.Field.ops.size }
+    ensures codes { (i : ℕ) → i < length candidates.now.items
+        → at (codes_of result.items) i < F.Field.ops.size }
     ensures forced { (N : ℕ) → N ≤ F.Field.ops.places
-        → RisingIn F.Field.ops N candidates.now.items → Forced F.Field.ops N candidates.now.items values.now (codes_of result.items) }
+        → RisingIn F.Field.ops N candidates.now.items
+        → Forced F.Field.ops N candidates.now.items values.now (codes_of result.items) }
 {
     let candidates = candidates.as_slice();
     let product = product::<F>(candidates);
@@ -53,8 +56,8 @@ fn product<F: Field>(candidates: &[Candidate]) -> [u32; COEFFICIENTS]
     product
 }
 
-// The entry at the point x of a vector whose entries are at the roots of the product, as many as there are values.
-// `quotient` runs over the coefficients of the product divided by its root x, from the highest on.
+// The entry at the point x of a vector whose entries are at the roots of the product, as many as there are
+// values. `quotient` runs over the coefficients of the product divided by its root x, from the highest on.
 fn entry<F: Field>(product: &[u32; COEFFICIENTS], x: u32, values: &[u32]) -> u32
     requires { length values.now ≤ SUM_LIMIT }
     ensures { result ≡ interpolated F.Field.ops (length values.now) (at product.now) x (at values.now) }
@@ -62,7 +65,8 @@ fn entry<F: Field>(product: &[u32; COEFFICIENTS], x: u32, values: &[u32]) -> u32
     let mut quotient = 0;
     let mut against_values = 0;
     let mut at_x = 0;
-    // By index: both rows are read from the end, one a place apart from the other, and the product's row may be longer.
+    // By index: both rows are read from the end, one a place apart from the other, and the product's row
+    // may be longer.
     for k in (0..values.len()).rev() {
         quotient = F::mul_add(quotient, x, product[k + 1]);
         against_values = F::mul_add(quotient, values[k], against_values);

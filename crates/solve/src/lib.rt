@@ -15,8 +15,8 @@ pub use answer::solve;
 pub use limits::LIST_SIZE;
 pub use lookup::code_at;
 
-/// One page of a solution, with its code. Solving writes a list of `LIST_SIZE`, lent by its caller, rising by page; page 0 stands in
-/// all places after the last (docs/RULES.md, "Solving a difference").
+/// One page of a solution, with its code. Solving writes a list of `LIST_SIZE`, lent by its caller, rising
+/// by page; page 0 stands in all places after the last (docs/RULES.md, "Solving a difference").
 #[repr(C)]
 #[derive(Clone, Copy, PartialEq, Eq, Debug)]
 pub struct Entry {

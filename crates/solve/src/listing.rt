@@ -15,7 +15,8 @@ pub(crate) fn list_nonzeros(
     coded: &ArrayVec<Coded, SUM_LIMIT>,
     list: &mut [Entry; LIST_SIZE],
 ) -> usize
-    requires { (i j : ℕ) → i < j → j < length (candidates_of coded.now.items) → at (pages_of (candidates_of coded.now.items)) i < at (pages_of (candidates_of coded.now.items)) j }
+    requires { let pages = pages_of (candidates_of coded.now.items) in
+        (i j : ℕ) → i < j → j < length (candidates_of coded.now.items) → at pages i < at pages j }
     ensures fits { result < length list.new }
     ensures listed { NonzerosOf (candidates_of coded.now.items) (codes_of coded.now.items) result list.new }
 {

@@ -7,9 +7,10 @@ use crate::polynomial::{against, combine};
 use arrayvec::ArrayVec;
 use field::Field;
 
-// A locator of each solution with at most `weight` pages, from the first 2 weight sums.
-// At each turn `locator` is monic of `degree` and 0 against the first `cleared` windows of the values; `previous` is 0 against the
-// first degree - 1, and comes to `divisor` against the next. A window is as many values in a row as there are coefficients.
+// A locator of each solution with at most `weight` pages, from the first 2 weight sums. At each turn
+// `locator` is monic of `degree` and 0 against the first `cleared` windows of the values; `previous` is 0
+// against the first degree - 1, and comes to `divisor` against the next. A window is as many values in a
+// row as there are coefficients.
 pub(crate) fn locate<F: Field>(values: &[u32], weight: usize) -> ArrayVec<u32, COEFFICIENTS>
     requires light { weight ≤ 64 }
     requires values_reach { weight + weight ≤ length values.now }

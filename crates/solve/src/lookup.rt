@@ -5,7 +5,8 @@ ghost use Rattle.solve.specs.Answer;
 use crate::Entry;
 use crate::limits::LIST_SIZE;
 
-/// The code that a list gives a page, 0 if it has none for it; what stands after the first page 0 counts for nothing.
+/// The code that a list gives a page, 0 if it has none for it; what stands after the first page 0 counts
+/// for nothing.
 pub fn code_at(list: &[Entry; LIST_SIZE], page: usize) -> u32
     ensures { result ≡ Answer.code_at list.now page }
 {

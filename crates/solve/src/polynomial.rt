@@ -18,7 +18,8 @@ pub(crate) fn evaluate<F: Field>(coefficients: &[u32], x: u32) -> u32
 // The coefficients, against as many values.
 pub(crate) fn against<F: Field>(coefficients: &[u32], values: &[u32]) -> u32
     requires { length coefficients.now ≤ length values.now }
-    ensures { result ≡ window F.Field.ops (length coefficients.now) (at coefficients.now) 0 (at values.now) 0 }
+    ensures { result ≡ window F.Field.ops
+        (length coefficients.now) (at coefficients.now) 0 (at values.now) 0 }
 {
     coefficients.iter().zip(values).fold(
         0,
@@ -42,7 +43,8 @@ pub(crate) fn combine<F: Field>(
     w: &[u32; COEFFICIENTS],
     b: usize,
 ) -> [u32; COEFFICIENTS]
-    ensures { (i : ℕ) → i < COEFFICIENTS → at result i ≡ F.Field.ops.minus (shifted a (at p.now) i) (F.Field.ops.times c (shifted b (at w.now) i)) }
+    ensures { (i : ℕ) → i < COEFFICIENTS
+        → at result i ≡ F.Field.ops.minus (shifted a (at p.now) i) (F.Field.ops.times c (shifted b (at w.now) i)) }
 {
     let mut difference = [0; COEFFICIENTS];
     for (i, place) in difference.iter_mut().enumerate() {

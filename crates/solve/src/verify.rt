@@ -8,13 +8,15 @@ use crate::entries::Coded;
 use arrayvec::ArrayVec;
 use field::{Field, SUM_LIMIT};
 
-// Whether the codes at the candidates are a solution: at most `weight` are not 0, and the values are their sums.
+// Whether the codes at the candidates are a solution: at most `weight` are not 0, and the values are their
+// sums.
 pub(crate) fn verified<F: Field>(
     coded: &ArrayVec<Coded, SUM_LIMIT>,
     values: &[u32],
     weight: usize,
 ) -> bool
-    ensures { Decides result (Verified F.Field.ops (candidates_of coded.now.items) (codes_of coded.now.items) weight values.now) }
+    ensures { Decides result
+        (Verified F.Field.ops (candidates_of coded.now.items) (codes_of coded.now.items) weight values.now) }
 {
     weigh(coded) <= weight && has_sums::<F>(coded, values)
 }
@@ -26,7 +28,8 @@ fn weigh(coded: &[Coded]) -> usize
     coded.iter().filter(|coded| coded.code != 0).count()
 }
 
-// Whether the codes at the candidates have the values for their sums. A term is a code times a power of its point.
+// Whether the codes at the candidates have the values for their sums. A term is a code times a power of its
+// point.
 fn has_sums<F: Field>(coded: &[Coded], values: &[u32]) -> bool
     requires { length coded.now ≤ SUM_LIMIT }
     ensures { Decides result (HasSums F.Field.ops (candidates_of coded.now) (codes_of coded.now) values.now) }

@@ -10,8 +10,8 @@ use field::{Field, SUM_LIMIT};
 use refusal::Refusal;
 use std::marker::PhantomData;
 
-/// A station that holds a signature for each page, as words that are lent to it, page 1 first (docs/RULES.md, "Stations").
-/// Each word counts modulo the field's size.
+/// A station that holds a signature for each page, as words that are lent to it, page 1 first
+/// (docs/RULES.md, "Stations"). Each word counts modulo the field's size.
 #[derive(Drop)]
 pub struct Card<'a, F> {
     words: &'a [u32],

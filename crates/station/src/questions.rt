@@ -5,8 +5,8 @@ ghost use Rattle.station.specs.Questions.{asking_page};
 
 use refusal::Refusal;
 
-/// Refuses an index that is not from 1 to the last, by 11. A station of one's own asks this of each page, with how many it has, and of
-/// each sum, with `SUM_LIMIT`.
+/// Refuses an index that is not from 1 to the last, by 11. A station of one's own asks this of each page,
+/// with how many it has, and of each sum, with `SUM_LIMIT`.
 pub fn accept_index(index: usize, last: usize) -> Result<(), Refusal>
     ensures { MatchResult result (λ _. Accepted (asking_page last index)) (Refused (asking_page last index)) }
 {

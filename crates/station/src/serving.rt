@@ -10,9 +10,10 @@ use field::{Field, SUM_LIMIT};
 use refusal::{Buffer, Refusal};
 use wire::{Asked, Request};
 
-/// Answers a request to the station with this number: how many words of the reply are written, 4 and one for each value
-/// (docs/RULES.md, "Serving"); what stands after them in the buffer stays. Refused: the lowest garbled position (8), another station
-/// (9, place 2), an index outside (11), a reply buffer that is too short (2, place 2); the buffer is then what it was.
+/// Answers a request to the station with this number: how many words of the reply are written, 4 and one
+/// for each value (docs/RULES.md, "Serving"); what stands after them in the buffer stays. Refused: the
+/// lowest garbled position (8), another station (9, place 2), an index outside (11), a reply buffer that is
+/// too short (2, place 2); the buffer is then what it was.
 pub fn serve<F: Field, S: Station<F>>(
     station: &S,
     number: u32,
@@ -32,7 +33,8 @@ fn serve_request<F: Field, S: Station<F>>(
     request: &Request,
     reply: &mut [u32],
 ) -> Result<usize, Refusal>
-    ensures { ServedRequest F.Field.ops (S.Station.row station.now) number request.now reply.old reply.new result }
+    ensures { ServedRequest F.Field.ops (S.Station.row station.now) number request.now
+        reply.old reply.new result }
 {
     admit::<F, S>(station, number, request, reply.len())?;
     let count = 4 + request.value_count();

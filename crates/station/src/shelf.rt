@@ -12,8 +12,8 @@ use page::Cut;
 use refusal::Refusal;
 use std::marker::PhantomData;
 
-/// A station that holds a job's bytes, lent to it, and signs pages each time it is asked: sum j reads the whole job.
-/// Who asks often makes a card of it first (docs/RULES.md, "Stations").
+/// A station that holds a job's bytes, lent to it, and signs pages each time it is asked: sum j reads the
+/// whole job. Who asks often makes a card of it first (docs/RULES.md, "Stations").
 #[derive(Drop)]
 pub struct Shelf<'a, F> {
     job: &'a [u8],
@@ -22,8 +22,8 @@ pub struct Shelf<'a, F> {
 }
 
 impl<'a, F: Field> Shelf<'a, F> {
-    /// A shelf of this job, with pages of this length. Refused: a page length outside 1 to 4,096 (1, place 7), then fewer than 1 or
-    /// too many pages for the field (1, place 3).
+    /// A shelf of this job, with pages of this length. Refused: a page length outside 1 to 4,096 (1, place
+    /// 7), then fewer than 1 or too many pages for the field (1, place 3).
     pub fn new(job: &'a [u8], page_length: usize) -> Result<Shelf<'a, F>, Refusal>
         ensures { MatchResult result
             (λ shelf. Accepted (cutting F.Field.ops page_length (length job.now))
@@ -43,7 +43,8 @@ impl<'a, F: Field> Shelf<'a, F> {
 impl<'a, F: Field> Station<F> for Shelf<'a, F> {
     ghost row = { λ shelf. job_row F.Field.ops shelf.cut.page_length shelf.cut.pages shelf.job.now };
 
-    ghost codes = { λ shelf page. job_codes F.Field.lawful shelf.cut.page_length shelf.cut.pages shelf.job.now page };
+    ghost codes = { λ shelf page.
+        job_codes F.Field.lawful shelf.cut.page_length shelf.cut.pages shelf.job.now page };
 
     fn page_count(&self) -> usize {
         self.cut.pages()

@@ -5,7 +5,8 @@ ghost use Rattle.station.specs.Serving.{EndsMeet, EndsAgree};
 use crate::trait_station::Station;
 use field::Field;
 
-/// A theorem of every field: what a station serves to a request, read against that request, is accepted and gives exactly the answers of its meaning.
+/// A theorem of every field: what a station serves to a request, read against that request, is accepted and
+/// gives exactly the answers of its meaning.
 pub fn ends_agree()
     ensures { EndsAgree }
 {}

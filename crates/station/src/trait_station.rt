@@ -7,8 +7,8 @@ ghost use Rattle.station.specs.Questions.{asking_page, asking_sum};
 use field::Field;
 use refusal::Refusal;
 
-/// A station holds one copy of a job: it means the signatures of its pages, and a question changes nothing (docs/RULES.md, "Stations").
-/// `Card` and `Shelf` are stations; another one shows the law `codes`.
+/// A station holds one copy of a job: it means the signatures of its pages, and a question changes nothing
+/// (docs/RULES.md, "Stations"). `Card` and `Shelf` are stations; another one shows the law `codes`.
 pub trait Station<F: Field> {
     // the signatures of the pages 1 to N
     ghost row: { Self → List ℕ };
@@ -20,13 +20,15 @@ pub trait Station<F: Field> {
     /// The signature of page 1 to N, a code; any other page is refused (11).
     fn signature(&self, page: usize) -> Result<u32, Refusal>
         ensures { MatchResult result
-            (λ value. Accepted (asking_page (length (row self.now)) page) × (value ≡ entry (row self.now) page) × (value < F.Field.ops.size))
+            (λ value. Accepted (asking_page (length (row self.now)) page)
+            × (value ≡ entry (row self.now) page) × (value < F.Field.ops.size))
             (Refused (asking_page (length (row self.now)) page)) };
 
     /// Sum 1 to 128 of its signatures, a code; any other sum is refused (11).
     fn sum(&self, j: usize) -> Result<u32, Refusal>
         ensures { MatchResult result
-            (λ value. Accepted (asking_sum j) × (value ≡ power_sum F.Field.ops (length (row self.now)) (entry (row self.now)) j) × (value < F.Field.ops.size))
+            (λ value. Accepted (asking_sum j)
+            × (value ≡ power_sum F.Field.ops (length (row self.now)) (entry (row self.now)) j) × (value < F.Field.ops.size))
             (Refused (asking_sum j)) };
 
     // Every entry of the row is a code: what is served to any request reads back by this.

@@ -27,7 +27,9 @@ fn well_formed(limit: u32, position: usize, word: u32) -> bool
 // The lowest position at which a header and so many values are garbled.
 pub(crate) fn first_garbled(limit: u32, values: usize, words: &[u32]) -> Option<usize>
     requires { values < 2 ^ 32 }
-    ensures { MatchOption result (Whole limit values words.now) (λ position. LowestAt (GarbledAt limit values words.now) position) }
+    ensures { MatchOption result
+        (Whole limit values words.now)
+        (λ position. LowestAt (GarbledAt limit values words.now) position) }
 {
     let due = 4 + values;
     let both = words.len().min(due);

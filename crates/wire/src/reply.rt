@@ -9,11 +9,12 @@ use crate::request::Request;
 use field::Field;
 use refusal::Refusal;
 
-/// The value words of a reply to the request, each with a code of the field. Refused: the lowest garbled position (8), then the
-/// lowest position at which the header is not the request's (9).
+/// The value words of a reply to the request, each with a code of the field. Refused: the lowest garbled
+/// position (8), then the lowest position at which the header is not the request's (9).
 pub fn read_reply<'a, F: Field>(request: &Request, words: &'a [u32]) -> Result<&'a [u32], Refusal>
     ensures { MatchResult result
-        (λ values. Accepted (reading_reply F.Field.ops request.now words.now) × Reply F.Field.ops request.now words.now values.now)
+        (λ values. Accepted (reading_reply F.Field.ops request.now words.now)
+        × Reply F.Field.ops request.now words.now values.now)
         (Refused (reading_reply F.Field.ops request.now words.now)) }
 {
     if let Some(position) = first_garbled(F::SIZE, request.value_count(), words) {
@@ -30,7 +31,9 @@ pub fn read_reply<'a, F: Field>(request: &Request, words: &'a [u32]) -> Result<&
 
 // The lowest position at which the header is not the request's.
 fn first_foreign(request: &Request, header: [u32; 4]) -> Option<usize>
-    ensures { MatchOption result (header ≡ request_words request.now) (λ position. LowestAt (ForeignAt request.now header) position) }
+    ensures { MatchOption result
+        (header ≡ request_words request.now)
+        (λ position. LowestAt (ForeignAt request.now header) position) }
 {
     let due = request.words();
     header

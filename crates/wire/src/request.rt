@@ -9,7 +9,8 @@ use crate::words::{has_kind, value, word};
 use field::VALUE_LIMIT;
 use refusal::Refusal;
 
-/// A request: four words on the link (docs/RULES.md, "Words on the link"). Each number fits the 28 bits of a word's value.
+/// A request: four words on the link (docs/RULES.md, "Words on the link"). Each number fits the 28 bits of
+/// a word's value.
 #[derive(Clone, Copy)]
 pub struct Request {
     /// the number of the check that asks
@@ -22,7 +23,8 @@ pub struct Request {
     pub first: u32,
     /// the last one; no value is asked for where it is below the first
     pub last: u32,
-    ghost narrow: { (check < VALUE_LIMIT) × (station < VALUE_LIMIT) × (first < VALUE_LIMIT) × (last < VALUE_LIMIT) },
+    ghost narrow: { (check < VALUE_LIMIT) × (station < VALUE_LIMIT)
+        × (first < VALUE_LIMIT) × (last < VALUE_LIMIT) },
 }
 
 impl Request {
@@ -32,7 +34,9 @@ impl Request {
 
     /// A request, if each number fits the 28 bits of a word's value; else None.
     pub fn new(check: u32, station: u32, asked: Asked, first: u32, last: u32) -> Option<Request>
-        ensures { MatchOption result (Narrow check station first last → ⊥) (λ q. Holds q check station asked first last) }
+        ensures { MatchOption result
+            (Narrow check station first last → ⊥)
+            (λ q. Holds q check station asked first last) }
     {
         if check < VALUE_LIMIT
             && station < VALUE_LIMIT
@@ -54,7 +58,9 @@ impl Request {
     /// The request that these words carry. Refused: the lowest garbled position (8).
     /// Whether its indices make sense is not asked here: serving refuses those that do not.
     pub fn read(words: &[u32]) -> Result<Request, Refusal>
-        ensures { MatchResult result (λ q. Accepted (reading_request words.now) × (words.now ≡ request_words q)) (Refused (reading_request words.now)) }
+        ensures { MatchResult result
+            (λ q. Accepted (reading_request words.now) × (words.now ≡ request_words q))
+            (Refused (reading_request words.now)) }
     {
         if let Some(position) = first_garbled(0, 0, words) {
             return Err(Refusal::Garbled(position));

@@ -6,7 +6,8 @@ pub fn requests_read_back()
     ensures { RequestsReadBack }
 {}
 
-/// A theorem of every field: every reply with as many codes as were asked for is accepted, and its values are read back as they were written.
+/// A theorem of every field: every reply with as many codes as were asked for is accepted, and its values
+/// are read back as they were written.
 pub fn replies_read_back()
     ensures { RepliesReadBack }
 {}

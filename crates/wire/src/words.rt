@@ -6,7 +6,8 @@ ghost use Rattle.wire.specs.Words;
 use crate::kind::Kind;
 use field::VALUE_LIMIT;
 
-/// The value word of a reply that carries this number, counted modulo 2^28 (docs/RULES.md, "Words on the link").
+/// The value word of a reply that carries this number, counted modulo 2^28 (docs/RULES.md, "Words on the
+/// link").
 pub fn value_word(number: u32) -> u32
     ensures { result ≡ Words.word 6 (Words.value_of number) }
 {
