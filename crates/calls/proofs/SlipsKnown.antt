@@ -277,6 +277,7 @@ module _ (f : Ops) (l : Laws f) (spread : Spread f) where
           ((a, inr e), e),
     );
     done = h.done;
+    others = (shape_kept f l spread own tally ks b g run).others;
     said = run_said own tally ks b g run;
   }
     where

@@ -1,5 +1,6 @@
 -- What the states of a slip mean: which of the accepted calls about its request is the newest.
 use Rattle.std.specs.Prelude.{◌≡◌, ℕ, ◌⊎◌, ◌↔◌, List, [], ◌∷◌, Ok}
+use Rattle.refusal.specs.Rules.{Within}
 use Rattle.wire.specs.declared.request.Request.{Request}
 use Rattle.wire.specs.Requests.{Same}
 use Rattle.calls.specs.declared.standing.Standing.TheVariants.{Heard, Done}
@@ -65,9 +66,10 @@ SaidRight (return p (Ok r) ∷ ks) = ((r ≡ Answered) ↔ HeardBy ks p.request)
 SaidRight (c ∷ ks) = SaidRight ks
 
 -- What a check knows of its slips is what was done about their requests. A slip with request q is out here, and its station heard, by the newest
--- accepted call about q; and of this asking's requests to stations that are asked those are done whose slip came back answered.
+-- accepted call about q; of this asking's requests to stations that are asked those are done whose slip came back answered; the other stations are done.
 pub record SlipsKnown (ks : List Call) (b : Book) (g : Stage) : Type 0 where
   pub out : (q : Request) → OutHere b q ↔ (AskedBy ks q ⊎ HeardBy ks q)
   pub heard : (q : Request) → (OutHere b q × (standing b q.station ≡ Heard)) ↔ HeardBy ks q
   pub done : (q : Request) → AskedAt g q.station → Asks b q.station q → (standing b q.station ≡ Done) ↔ DoneBy ks q
+  pub others : (s : ℕ) → Within 2 b.terms.stations s → ¬ AskedAt g s → standing b s ≡ Done
   pub said : SaidRight ks
