@@ -14,7 +14,7 @@ use Rattle.calls.specs.declared.book.Book.{Book}
 use Rattle.calls.specs.declared.phases.Way.TheVariants.{ByWeighing, BySettling}
 use Rattle.calls.specs.Standings.{SlipOut}
 use Rattle.calls.specs.Questions.{PlainTerms, FirstAsks}
-use Rattle.calls.specs.Slips.{standing, standing_after, returned_as, Asks, OutHere, Keeps}
+use Rattle.calls.specs.Slips.{standing, standing_after, returned_as, OfAsking, OutHere, Keeps}
 use Rattle.calls.specs.Closing.{WeighAsks}
 use Rattle.calls.specs.Runs.{Stage, first, second, closed, Call, slip, take, return, weigh, settle, Step, Run, slips, takes, returns, weigh_closes, weigh_asks, weigh_refused, settle_closes, settle_refused, lists, opened, called}
 use Rattle.calls.specs.States.{IsSlip, IsReply, IsReturn, IsAbout, Newest, AskedBy, HeardBy, DoneBy, AskedAt, SaidRight, SlipsKnown}
@@ -33,10 +33,10 @@ EarlyBy (second k) ks = Unit {0}
 EarlyBy (closed way v) ks = Unit {0}
 
 pub record Known (ks : List Call) (b : Book) (g : Stage) : Type 0 where
-  pub asked : (q : Request) → Asks b q.station q → (standing b q.station ≡ Out) ↔ AskedBy ks q
-  pub heard : (q : Request) → Asks b q.station q → (standing b q.station ≡ Heard) ↔ HeardBy ks q
-  pub done : (q : Request) → AskedAt g q.station → Asks b q.station q → (standing b q.station ≡ Done) ↔ DoneBy ks q
-  pub here : (q : Request) → AskedBy ks q ⊎ HeardBy ks q → Asks b q.station q
+  pub asked : (q : Request) → OfAsking b q.station q → (standing b q.station ≡ Out) ↔ AskedBy ks q
+  pub heard : (q : Request) → OfAsking b q.station q → (standing b q.station ≡ Heard) ↔ HeardBy ks q
+  pub done : (q : Request) → AskedAt g q.station → OfAsking b q.station q → (standing b q.station ≡ Done) ↔ DoneBy ks q
+  pub here : (q : Request) → AskedBy ks q ⊎ HeardBy ks q → OfAsking b q.station q
   pub early : EarlyBy g ks
 
 -- a call that is about no request
@@ -77,7 +77,7 @@ record Leaves (c : Call) (p : Request) (y : Standing) : Type 0 where
   done : (q : Request) → Same p q → y ≡ Done → IsReturn Answered c q
 
 module _ (b b' : Book) (s : ℕ) (p : Request) (y : Standing) (keeps : Keeps b b') (is : b'.standings ≡ set b.standings s y) (inside : s < length b.standings)
-    (asks : Asks b s p) (c : Call) (ks : List Call) (leaves : Leaves c p y) where
+    (asks : OfAsking b s p) (c : Call) (ks : List Call) (leaves : Leaves c p y) where
   begins_at_one : FirstAsks b.terms b.question → b.question.first ≡ 1
   begins_at_one (inl x) = x.1.1
   begins_at_one (inr x) = x.1.1
@@ -91,11 +91,11 @@ module _ (b b' : Book) (s : ℕ) (p : Request) (y : Standing) (keeps : Keeps b b
   early_then (second k) x e = tt
   early_then (closed way v) x e = tt
 
-  asks_then : (q : Request) → Asks b q.station q → Asks b' q.station q
+  asks_then : (q : Request) → OfAsking b q.station q → OfAsking b' q.station q
   asks_then q a =
       (a.0 ∙ sym (ap (λ t. t.number) keeps.terms), a.1, a.2 ∙ sym (ap (λ t. t.asked) keeps.question), a.3 ∙ sym (ap (λ t. t.first) keeps.question), a.4 ∙ sym (ap (λ t. t.last) keeps.question))
 
-  here_then : (g : Stage) → Known ks b g → (q : Request) → AskedBy (c ∷ ks) q ⊎ HeardBy (c ∷ ks) q → Asks b q.station q
+  here_then : (g : Stage) → Known ks b g → (q : Request) → AskedBy (c ∷ ks) q ⊎ HeardBy (c ∷ ks) q → OfAsking b q.station q
   here_then g h q (inl (inl d)) = asks_same b s p q asks (leaves.by_slip q d).0
   here_then g h q (inl (inr n)) = h.here q (inl n.1)
   here_then g h q (inr (inl d)) = asks_same b s p q asks (leaves.by_reply q d).0
@@ -180,7 +180,7 @@ module _ (f : Ops) (l : Laws f) (spread : Spread f) (b b' : Book) (k : ℕ) (t t
   nobody q (inl (inl d)) = absurd d
   nobody q (inr (inl d)) = absurd d
 
-  not_done_yet : (q : Request) → AskedAt (second k) q.station → Asks b' q.station q → (standing b' q.station ≡ Done) ↔ DoneBy (weigh t t' ∷ ks) q
+  not_done_yet : (q : Request) → AskedAt (second k) q.station → OfAsking b' q.station q → (standing b' q.station ≡ Done) ↔ DoneBy (weigh t t' ∷ ks) q
   not_done_yet q at asked = (
     λ done. absurd (let free = standing_same b.standings k Free x.again.standings (place_inside b k asked_one.1) in
         let e = ap (standing b') at in cc),

@@ -21,13 +21,13 @@ use Rattle.calls.specs.Entering.{Entered}
 abbrev pub standing : Book → ℕ → Standing
 standing b s = standing_of b.standings s
 
--- the request of this asking to station s
-abbrev pub Asks : Book → ℕ → Request → Type 0
-Asks b s q = Holds q b.terms.number s b.question.asked b.question.first b.question.last
+-- q is the request of this asking to station s
+abbrev pub OfAsking : Book → ℕ → Request → Type 0
+OfAsking b s q = Holds q b.terms.number s b.question.asked b.question.first b.question.last
 
 -- a slip with this request is out here
 abbrev pub OutHere : Book → Request → Type 0
-OutHere b q = Asks b q.station q × SlipOut (standing b q.station)
+OutHere b q = OfAsking b q.station q × SlipOut (standing b q.station)
 
 -- the terms and the question stay
 pub record Keeps (b b' : Book) : Type 0 where
@@ -52,7 +52,7 @@ one_handed c = record { handed = c.handed + 1; answered = c.answered; blank = c.
 
 -- the slip has the request, whose words are written; the station's slip is out
 pub record HandsOut (b : Book) (s : ℕ) (before : List ℕ) (slip : Slip) (b' : Book) (after : List ℕ) : Type 0 where
-  pub request : Asks b s slip.request
+  pub request : OfAsking b s slip.request
   pub written : after ≡ request_words slip.request ++ drop 4 before
   pub keeps : Keeps b b'
   pub standings : b'.standings ≡ slice_set b.standings s Out

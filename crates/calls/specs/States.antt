@@ -7,7 +7,7 @@ use Rattle.calls.specs.declared.standing.Standing.TheVariants.{Heard, Done}
 use Rattle.calls.specs.declared.slip.Returned.{Returned}
 use Rattle.calls.specs.declared.slip.Returned.TheVariants.{Answered}
 use Rattle.calls.specs.declared.book.Book.{Book}
-use Rattle.calls.specs.Slips.{standing, Asks, OutHere}
+use Rattle.calls.specs.Slips.{standing, OfAsking, OutHere}
 use Rattle.calls.specs.Runs.{Stage, first, second, closed, Call, slip, take, return}
 
 -- ── what an accepted call does about the request q
@@ -70,6 +70,6 @@ SaidRight (c ∷ ks) = SaidRight ks
 pub record SlipsKnown (ks : List Call) (b : Book) (g : Stage) : Type 0 where
   pub out : (q : Request) → OutHere b q ↔ (AskedBy ks q ⊎ HeardBy ks q)
   pub heard : (q : Request) → (OutHere b q × (standing b q.station ≡ Heard)) ↔ HeardBy ks q
-  pub done : (q : Request) → AskedAt g q.station → Asks b q.station q → (standing b q.station ≡ Done) ↔ DoneBy ks q
+  pub done : (q : Request) → AskedAt g q.station → OfAsking b q.station q → (standing b q.station ≡ Done) ↔ DoneBy ks q
   pub others : (s : ℕ) → Within 2 b.terms.stations s → ¬ AskedAt g s → standing b s ≡ Done
   pub said : SaidRight ks

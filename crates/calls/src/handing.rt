@@ -2,7 +2,7 @@
 ghost use Rattle.std.specs.Prelude.{◌≡◌, ◌≤◌, ◌++◌, length, drop, MatchResult};
 ghost use Rattle.refusal.specs.Rules.{Refused, Accepted, Within};
 ghost use Rattle.wire.specs.Requests.{request_words};
-ghost use Rattle.calls.specs.Slips.{slipping, Asks, Slips};
+ghost use Rattle.calls.specs.Slips.{slipping, OfAsking, Slips};
 
 use crate::book::Book;
 use crate::slip::Slip;
@@ -54,7 +54,7 @@ impl Book {
     // The request of this asking to the station.
     fn request_to(&self, station: u32) -> Request
         requires { station ≤ 8 }
-        ensures { Asks self.now station result }
+        ensures { OfAsking self.now station result }
     {
         let question = self.question;
         Request::new(
