@@ -16,7 +16,7 @@ use Rattle.calls.specs.declared.slip.Slip.{Slip}
 use Rattle.calls.specs.declared.slip.Returned.{Returned}
 use Rattle.calls.specs.declared.slip.Returned.TheVariants.{Answered}
 use Rattle.calls.specs.declared.standing.Standing.TheVariants.{Out, Heard}
-use Rattle.calls.specs.Slips.{Takes, slipping, taking, returning, TakesIn, Asks, HandsOut, standing, returned_as}
+use Rattle.calls.specs.Slips.{Takes, slipping, taking, returning, TakesIn, OfAsking, HandsOut, standing, returned_as}
 use Rattle.desk.specs.Exchange.{Ready}
 use Rattle.desk.proofs.Answered.{served_answers}
 use Rattle.calls.proofs.StandingsSet.{standing_same, not_free}
@@ -53,7 +53,7 @@ module _ {row : List ℕ} {only : Option ℕ} {s : ℕ} {b : Book} {room : ℕ} 
     pub fits_reply : 4 + values_due slip.request ≤ 132
     fits_reply = omega (arith, out.request, r.short, b.question.first_in)
 
-    asks_here : (b' : Book) → b'.terms ≡ b.terms → b'.question ≡ b.question → Asks b' slip.request.station slip.request
+    asks_here : (b' : Book) → b'.terms ≡ b.terms → b'.question ≡ b.question → OfAsking b' slip.request.station slip.request
     asks_here b' t q = (
       out.request.0 ∙ sym (ap (λ t. t.number) t),
       refl,
