@@ -50,9 +50,11 @@ impl<F: Field> Check<F, First> {
         own: &S,
         tally: &mut [u32],
     ) -> Result<Check<F, First>, Refusal>
-        ensures opened { Opened F.Field.ops (S.Station.row own.now) number stations pages bound tally.old result tally.new }
+        ensures opened { Opened F.Field.ops (S.Station.row own.now) number stations pages bound
+            tally.old result tally.new }
         ensures begins { IfOk result (λ check.
-            Run F.Field.ops (S.Station.row own.now) tally.new [] check.book (⟦<First as Phase>⟧.stage check.phase)) }
+            Run F.Field.ops (S.Station.row own.now) tally.new [] check.book
+            (⟦<First as Phase>⟧.stage check.phase)) }
         ensures promise { EveryRun }
         ensures replies { ByReplies }
     {
@@ -75,7 +77,8 @@ impl<F: Field> Check<F, First> {
     /// the lowest whose reply is lacking (7, the station). Rules: "The calls", "The verdict".
     pub fn weigh(self, tally: &mut [u32]) -> Result<Weighed<F>, Declined<Check<F, First>>>
         ensures weighing { Weighing F.Field.ops self tally.old result tally.new }
-        ensures step { WeighSteps F.Field.ops ⟦<First as Phase>⟧.stage ⟦<Second as Phase>⟧.stage ⟦<Closed as Phase>⟧.stage
+        ensures step { WeighSteps F.Field.ops
+            ⟦<First as Phase>⟧.stage ⟦<Second as Phase>⟧.stage ⟦<Closed as Phase>⟧.stage
             self tally.old result tally.new }
     {
         if let Err(refusal) = self.book.can_close(tally.len()) {
@@ -116,7 +119,8 @@ impl<F: Field, P: Asking> Check<F, P> {
     /// own (6); a station whose slip is out (4), or whose reply is in (5), each with the station as its place; when 2^32 − 1 slips were handed
     /// out (11, place 0). Rules: "Slips", "The calls".
     pub fn slip(&mut self, station: u32, request: &mut [u32]) -> Result<Slip, Refusal>
-        ensures book { Slips self.old.book (P.Asking.only self.old.phase) station request.old result self.new.book request.new }
+        ensures book { Slips self.old.book (P.Asking.only self.old.phase) station request.old
+            result self.new.book request.new }
         ensures phase { self.new.phase ≡ self.old.phase }
         ensures step { Step F.Field.ops self.old.book (P.Phase.stage self.old.phase)
             (Runs.slip station request.old result request.new) self.new.book (P.Phase.stage self.new.phase) }
@@ -129,10 +133,12 @@ impl<F: Field, P: Asking> Check<F, P> {
     /// Refused, in this order: a tally that is too short (2, place 1); a slip that is not out here (10, its station); a station whose reply was
     /// taken (5, the station); a garbled reply (8), then a foreign one (9), at the lowest such position, from 1. Rules: "The calls", "Words on the link".
     pub fn take(&mut self, slip: &Slip, reply: &[u32], tally: &mut [u32]) -> Result<(), Refusal>
-        ensures book { Takes F.Field.ops self.old.book slip.now.request reply.now tally.old result self.new.book tally.new }
+        ensures book { Takes F.Field.ops self.old.book slip.now.request reply.now tally.old
+            result self.new.book tally.new }
         ensures phase { self.new.phase ≡ self.old.phase }
         ensures step { Step F.Field.ops self.old.book (P.Phase.stage self.old.phase)
-            (Runs.take slip.now reply.now tally.old result tally.new) self.new.book (P.Phase.stage self.new.phase) }
+            (Runs.take slip.now reply.now tally.old result tally.new)
+            self.new.book (P.Phase.stage self.new.phase) }
     {
         self.book.take_in::<F>(&slip.request, reply, tally)
     }
@@ -163,7 +169,8 @@ impl<F: Field, P: Phase> Check<F, P> {
     /// Refused, in this order: a tally that is too short (2, place 1); when the check has not closed with a report (12, place 0); no such station
     /// (3, the station); a buffer that is too short for these pages (2, place 2). Rules: "The calls", "The verdict".
     pub fn list(&self, station: u32, tally: &[u32], out: &mut [u32]) -> Result<usize, Refusal>
-        ensures lists { Listing.Listing self.now.book.terms (found (P.Phase.stage self.now.phase)) station tally.now out.old result out.new }
+        ensures lists { Listing.Listing self.now.book.terms (found (P.Phase.stage self.now.phase)) station
+            tally.now out.old result out.new }
         ensures step { Step F.Field.ops self.now.book (P.Phase.stage self.now.phase)
             (Runs.list station tally.now out.old result out.new) self.now.book (P.Phase.stage self.now.phase) }
     {
@@ -189,7 +196,8 @@ impl<F: Field> Check<F, Second> {
     /// Ends the second asking and closes the check, by what stands in the tally; refused as `weigh` is. Rules: "The calls", "The verdict".
     pub fn settle(self, tally: &mut [u32]) -> Result<Check<F, Closed>, Declined<Check<F, Second>>>
         ensures settling { Settling F.Field.ops self tally.old result tally.new }
-        ensures step { SettleSteps F.Field.ops ⟦<Second as Phase>⟧.stage ⟦<Closed as Phase>⟧.stage self tally.old result tally.new }
+        ensures step { SettleSteps F.Field.ops ⟦<Second as Phase>⟧.stage ⟦<Closed as Phase>⟧.stage
+            self tally.old result tally.new }
     {
         if let Err(refusal) = self.book.can_close(tally.len()) {
             return Err(Declined {
