@@ -1,13 +1,12 @@
-// `FIELD arithmetic A B = SUM DIFFERENCE PRODUCT INVERSE`: the inverse is that of A.
-use crate::lists::{number_text, numbers};
-use anyhow::{Result, bail};
+// `FIELD arithmetic A B = [SUM, DIFFERENCE, PRODUCT, INVERSE]`: the inverse is that of A.
+use crate::answering::numbers;
 use field::Field;
-use std::alloc::Global;
+use std::alloc::{AllocError, Global};
 
-pub fn answer<F: Field>(heap: Global, words: &[&str]) -> Result<String> {
+pub fn answer<F: Field>(heap: Global, words: &[&str]) -> Result<Option<String>, AllocError> {
     let [a, b] = *numbers(heap, words)?.as_slice() else {
-        bail!("two numbers are due");
+        return Ok(None);
     };
     let results = [F::add(a, b), F::sub(a, b), F::mul(a, b), F::inv(a)];
-    Ok(number_text(heap, &results)?)
+    Ok(Some(format!(in heap; "{results:?}")?))
 }

@@ -1,30 +1,34 @@
 // `FIELD card LENGTH COUNT = TEXT`: what is written for a job of so many bytes 1, cut into pages of this length; each line ends with `|`.
-use anyhow::{Result, bail};
+use crate::answering::count;
 use cards::CARD_ROOM;
 use fields::FieldName;
-use std::alloc::Global;
+use std::alloc::{AllocError, Global};
 
-pub fn answer(heap: Global, field: FieldName, words: &[&str]) -> Result<String> {
-    let [length, count] = words else {
-        bail!("a page length and a count of bytes are due");
+pub fn answer(
+    heap: Global,
+    field: FieldName,
+    words: &[&str],
+) -> Result<Option<String>, AllocError> {
+    let [length, bytes] = words else {
+        return Ok(None);
     };
-    let job = vec![in heap; 1u8; count.parse::<usize>()?]?;
+    let (Some(length), Some(bytes)) = (count(length), count(bytes)) else {
+        return Ok(None);
+    };
+    let job = vec![in heap; 1u8; bytes]?;
     let mut card = vec![in heap; 0u8; CARD_ROOM]?;
-    let Ok(written) = cards::card_in(
-        field,
-        length.parse::<usize>()?,
-        job.as_slice(),
-        card.as_mut_slice(),
-    ) else {
-        bail!("the card has no room");
+    let Ok(written) = cards::card_in(field, length, job.as_slice(), card.as_mut_slice()) else {
+        return Ok(None);
     };
-    let mut text = String::new(heap);
-    for byte in card.as_slice().iter().take(written.count) {
-        text.push(if *byte == b'\n' {
+    let text: String = card
+        .as_slice()
+        .iter()
+        .take(written.count)
+        .map(|byte| if *byte == b'\n' {
             '|'
         } else {
             char::from(*byte)
-        })?;
-    }
-    Ok(text)
+        })
+        .collect(heap)?;
+    Ok(Some(text))
 }

@@ -1,34 +1,22 @@
-// `FIELD job LENGTH BYTES = SIGNATURE .. ; SUM ..`: a job's bytes, cut into pages of this length; its signatures, and its sums 1 to 5.
-use crate::lists::number_text;
-use anyhow::{Result, bail};
+// `FIELD job LENGTH BYTES = [SIGNATURE, ..] [SUM, ..]`: a job's bytes, cut into pages of this length; its signatures, and its sums 1 to 5.
+use crate::answering::count;
 use field::Field;
 use std::alloc::{AllocError, Global};
 
-pub fn answer<F: Field>(heap: Global, words: &[&str]) -> Result<String> {
+pub fn answer<F: Field>(heap: Global, words: &[&str]) -> Result<Option<String>, AllocError> {
     let [length, bytes] = words else {
-        bail!("a page length and the job's bytes are due");
+        return Ok(None);
     };
-    let length = length.parse::<usize>()?;
-    let job = hex::decode(heap, *bytes)?;
+    let (Some(length), Ok(job)) = (count(length), hex::decode(heap, *bytes)) else {
+        return Ok(None);
+    };
+    let job = job.as_slice();
     let Ok(pages) = page::count_pages::<F>(job.len(), length) else {
-        bail!("a job that is refused");
+        return Ok(None);
     };
-    let row = row_of::<F>(heap, job.as_slice(), length, pages)?;
+    let row: Vec<u32> = (1..=pages)
+        .map(|page| page::page_signature::<F>(job, length, page))
+        .collect(heap)?;
     let sums = [1, 2, 3, 4, 5].map(|j| page::row_sum::<F>(row.as_slice(), j));
-    let signatures = number_text(heap, row.as_slice())?;
-    let sums = number_text(heap, &sums)?;
-    Ok(format!(in heap; "{signatures} ; {sums}")?)
-}
-
-fn row_of<F: Field>(
-    heap: Global,
-    job: &[u8],
-    length: usize,
-    pages: usize,
-) -> Result<Vec<u32>, AllocError> {
-    let mut row = Vec::new(heap);
-    for page in 1..=pages {
-        row.push(page::page_signature::<F>(job, length, page))?;
-    }
-    Ok(row)
+    Ok(Some(format!(in heap; "{row:?} {sums:?}")?))
 }

@@ -6,23 +6,21 @@ mod answering;
 mod arithmetic;
 mod cards_written;
 mod jobs;
-mod lists;
+mod link;
 mod powers;
-mod reading;
 mod serving;
 mod solving;
 
 use answering::answer;
-use anyhow::{Context, Result};
 use std::io;
 
-fn main(rt: HostRuntime) -> Result<()> {
+fn main(rt: HostRuntime) -> io::Result<()> {
     let heap = rt.alloc();
     let table = io::read_to_string(heap, rt.stdin())?;
     for line in table.as_str().lines() {
         match line.split_once(" = ") {
             Some((question, _)) => {
-                let answer = answer(heap, question).context(format_args!("{question}"))?;
+                let answer = answer(heap, question)?;
                 println!(rt; "{question} = {answer}")?;
             }
             None => println!(rt; "{line}")?,

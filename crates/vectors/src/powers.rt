@@ -1,30 +1,22 @@
-// `FIELD powers HOW COUNT = POWER ..`: the powers of alpha from the power 0 on.
-use crate::lists::number_text;
-use anyhow::{Result, bail};
+// `FIELD powers HOW COUNT = [POWER, ..]`: the powers of alpha from the power 0 on, called for or by squaring; or those that come next, each in one step.
+use crate::answering::count;
 use field::Field;
 use std::alloc::{AllocError, Global};
 
-pub fn answer<F: Field>(heap: Global, words: &[&str]) -> Result<String> {
-    let [how, count] = words else {
-        bail!("a way and a count are due");
+pub fn answer<F: Field>(heap: Global, words: &[&str]) -> Result<Option<String>, AllocError> {
+    let [how, due] = words else {
+        return Ok(None);
     };
-    let count = count.parse::<usize>()?;
-    let powers = match *how {
-        "called" => (0..count).map(|n| F::alpha_pow(n)).collect(heap)?,
-        "squared" => (0..count).map(|n| F::pow(F::ALPHA, n)).collect(heap)?,
-        "stepped" => stepped::<F>(heap, count)?,
-        _ => bail!("powers are called, squared or stepped"),
+    let Some(due) = count(due) else {
+        return Ok(None);
     };
-    Ok(number_text(heap, powers.as_slice())?)
-}
-
-/// Each power from the one before.
-fn stepped<F: Field>(heap: Global, count: usize) -> Result<Vec<u32>, AllocError> {
-    let mut powers = Vec::new(heap);
-    let mut power = 1;
-    for _n in 0..count {
-        powers.push(power)?;
-        power = F::alpha_add(power, 0);
-    }
-    Ok(powers)
+    let powers: Vec<u32> = match *how {
+        "called" => (0..due).map(|n| F::alpha_pow(n)).collect(heap)?,
+        "squared" => (0..due).map(|n| F::pow(F::ALPHA, n)).collect(heap)?,
+        "next" => (0..due)
+            .map(|n| F::alpha_add(F::alpha_pow(n), 0))
+            .collect(heap)?,
+        _ => return Ok(None),
+    };
+    Ok(Some(format!(in heap; "{powers:?}")?))
 }

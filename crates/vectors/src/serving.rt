@@ -1,28 +1,31 @@
-// `FIELD serve KIND ROOM WORD .. = COUNT: WORD ..`, or `refused NUMBER PLACE: WORD ..`: what station 4, a card or a shelf with the signatures 3, 0 and 5, makes of a request.
-// The reply buffer has so many words, all of them 7; what it then holds is written whole, behind the count of the reply's words.
-use crate::lists::{link_words, with_link_words};
-use anyhow::{Result, bail};
+// `FIELD serve KIND ROOM WORD .. = COUNT: WORD ..`, or `refused NUMBER PLACE: WORD ..`: what station 4, a card or a shelf with the signatures 3, 0 and 5, makes of
+// a request. The reply buffer has so many words, all of them 7; what it then holds is written whole, behind the count of the reply's words.
+use crate::answering::count;
+use crate::link::{link_words, with_words};
 use field::Field;
 use refusal::Refusal;
-use station::{Card, Shelf, Station, serve};
-use std::alloc::Global;
+use station::{Card, Shelf, serve};
+use std::alloc::{AllocError, Global};
 
-pub fn answer<F: Field>(heap: Global, words: &[&str]) -> Result<String> {
+pub fn answer<F: Field>(heap: Global, words: &[&str]) -> Result<Option<String>, AllocError> {
     let [kind, room, request @ ..] = words else {
-        bail!("a kind of station and a count of words are due");
+        return Ok(None);
+    };
+    let Some(room) = count(room) else {
+        return Ok(None);
     };
     let request = link_words(heap, request)?;
-    let mut reply = vec![in heap; 7u32; room.parse::<usize>()?]?;
+    let mut reply = vec![in heap; 7u32; room]?;
     let served = match *kind {
         "card" => serve_card::<F>(request.as_slice(), reply.as_mut_slice()),
         "shelf" => serve_shelf::<F>(request.as_slice(), reply.as_mut_slice()),
-        _ => bail!("a station is a card or a shelf"),
+        _ => return Ok(None),
     };
     let head = match served {
         Ok(count) => format!(in heap; "{count}:")?,
         Err(refusal) => format!(in heap; "{refusal}:")?,
     };
-    Ok(with_link_words(head, reply.as_slice())?)
+    Ok(Some(with_words(head, reply.as_slice())?))
 }
 
 /// Words of a card count modulo the field's size.
