@@ -1,0 +1,10 @@
+// How an asking ended.
+
+use calls::Verdict;
+
+#[derive(Clone, Copy)]
+pub(crate) enum Ending {
+    Closes(Verdict),
+    // This station is asked again.
+    Asks(u32),
+}
