@@ -71,5 +71,5 @@ pub record SlipsKnown (ks : List Call) (b : Book) (g : Stage) : Type 0 where
   pub out : (q : Request) → OutHere b q ↔ (AskedBy ks q ⊎ HeardBy ks q)
   pub heard : (q : Request) → (OutHere b q × (standing b q.station ≡ Heard)) ↔ HeardBy ks q
   pub done : (q : Request) → AskedAt g q.station → OfAsking b q.station q → (standing b q.station ≡ Done) ↔ DoneBy ks q
-  pub others : (s : ℕ) → Within 2 b.terms.stations s → ¬ AskedAt g s → standing b s ≡ Done
+  pub others : (s : ℕ) → Within 2 b.terms.farm.stations s → ¬ AskedAt g s → standing b s ≡ Done
   pub said : SaidRight ks

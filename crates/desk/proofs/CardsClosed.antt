@@ -45,7 +45,7 @@ module _ (f : Ops) (laws : Laws f) (spread : Spread f) (promise : EveryRun) (M N
 
   -- the check's count of what was taken is that of its calls
   pub taken_counted : b.counts.taken ≡ all_calls taken_by calls.calls
-  taken_counted = (promise f laws spread (cards f N words 1) calls.opened calls.calls b g calls.run).0.taken
+  taken_counted = (promise f laws spread (cards f N words 1) calls.opened calls.calls b g calls.run).counted.taken
 
   pub judged_right : Judged f (cards f N words) b.terms after g
       × (Plain M N bound ⊎ (strays M (copies (cards f N words)) N ≤ bound) → Right (copies (cards f N words)) b.terms after g)

@@ -21,8 +21,8 @@ pub(crate) fn put_verdict(
     tally: &[u32],
 )
     requires none { text.old ≡ [] }
-    requires stations { check.now.book.terms.stations ≡ stations }
-    requires room { tally_size stations check.now.book.terms.pages ≤ length tally.now }
+    requires stations { check.now.book.terms.farm.stations ≡ stations }
+    requires room { tally_size stations check.now.book.terms.farm.pages ≤ length tally.now }
     ensures says { (lists : List Call) × VerdictText check.now.book.terms tally.now check.now.phase.verdict lists text.new }
     ensures short { length text.new ≤ 8 * 255 * 6 }
 {
@@ -42,8 +42,8 @@ fn put_report(
 )
     requires none { text.old ≡ [] }
     requires report { check.now.phase.verdict ≡ Report }
-    requires stations { check.now.book.terms.stations ≡ stations }
-    requires room { tally_size stations check.now.book.terms.pages ≤ length tally.now }
+    requires stations { check.now.book.terms.farm.stations ≡ stations }
+    requires room { tally_size stations check.now.book.terms.farm.pages ≤ length tally.now }
     ensures says { (lists : List Call) × Listings check.now.book.terms tally.now stations lists text.new }
     ensures short { length text.new ≤ 8 * 255 * 6 }
 {

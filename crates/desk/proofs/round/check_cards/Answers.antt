@@ -26,7 +26,7 @@ returns g c =
     let farm = c.args.farm.now in
     let f = g.F.Field.ops in
     let opens = c.in_ok-check.ensures.opened in (
-      (c.in_ok-accept_length.ensures.0, (opens.accepted.1.1.1.1.1.0, tt)),
+      (c.in_ok-accept_pages.ensures.0, (c.in_ok-accept_length.ensures.0, (opens.accepted.1.1.1.1.1.0, tt))),
       c.close.ensures c.args.tally.now (c.ask_all.ensures c.args.tally.now (going_starts f farm.stations farm.pages farm.bound c.args.words.now c.args.tally.now _
           (ap (card_row f) c.card_of-own.ensures) c.in_ok-check.check.book c.open.new.tally opens)),
     )
