@@ -1,1 +1,3 @@
 pub mod Lent
+pub mod Answers
+pub mod Typed

@@ -1,4 +1,6 @@
 // The answers, as they are printed.
+ghost use Rattle.std.specs.Prelude.{◌≡◌, Some};
+ghost use Rattle.commands.specs.Answers.{answer_text, ending_text, reply_text, answer_of};
 
 use crate::ending::Ending;
 use crate::excuse::Excuse;
@@ -63,7 +65,9 @@ impl From<Answer> for Reply {
 
 impl Answer {
     // What a call gave, or its refusal.
-    pub(crate) fn of(outcome: Result<Answer, Refusal>) -> Answer {
+    pub(crate) fn of(outcome: Result<Answer, Refusal>) -> Answer
+        ensures { result ≡ answer_of outcome }
+    {
         match outcome {
             Ok(answer) => answer,
             Err(refusal) => Answer::Refused(refusal),
@@ -72,6 +76,8 @@ impl Answer {
 }
 
 impl fmt::Display for Reply {
+    ghost output = { λ reply. reply_text reply.spoilt (answer_text reply.answer) };
+
     fn fmt<W: fmt::Write>(&self, f: &mut fmt::Formatter<W>) -> fmt::Result {
         let answer = &self.answer;
         if self.spoilt {
@@ -83,6 +89,8 @@ impl fmt::Display for Reply {
 }
 
 impl fmt::Display for Answer {
+    ghost output = { answer_text };
+
     fn fmt<W: fmt::Write>(&self, f: &mut fmt::Formatter<W>) -> fmt::Result {
         match self {
             Answer::Card => write!(f, "card"),
@@ -113,6 +121,8 @@ impl fmt::Display for Answer {
 }
 
 impl fmt::Display for Ending {
+    ghost output = { λ ending. Some (ending_text ending) };
+
     fn fmt<W: fmt::Write>(&self, f: &mut fmt::Formatter<W>) -> fmt::Result {
         match self {
             Ending::Closes(Verdict::Report) => write!(f, "report"),

@@ -1,4 +1,5 @@
 // Numbers, words of the link and bytes, as they are written in a line.
+ghost use Rattle.std.specs.Prelude.{IfSome, Ok};
 
 use std::alloc::{AllocError, Global};
 
@@ -6,11 +7,14 @@ use std::alloc::{AllocError, Global};
 pub(crate) fn decimal<N: std::str::FromStr>(text: &str) -> Option<N>
 where
     N::Err: Drop,
+    ensures { IfSome result (λ n. N.from_str_gives text.now (Ok n)) }
 {
-    if text.bytes().all(|byte| byte.is_ascii_digit()) {
-        text.parse::<N>().ok()
-    } else {
-        None
+    if !text.bytes().all(|byte| byte.is_ascii_digit()) {
+        return None;
+    }
+    match text.parse::<N>() {
+        Ok(number) => Some(number),
+        Err(_) => None,
     }
 }
 

@@ -1,4 +1,6 @@
 // `slip`: handing out a slip.
+ghost use Rattle.std.specs.Prelude.{IfOk, string_bytes};
+ghost use Rattle.commands.specs.Typed.{ReadsNamed};
 
 use crate::answer::{Answer, Reply};
 use crate::checks::OpenCheck;
@@ -22,7 +24,9 @@ pub(crate) struct HandOut {
 }
 
 impl HandOut {
-    pub(crate) fn read(words: &mut Words) -> Result<HandOut, Misread> {
+    pub(crate) fn read(words: &mut Words) -> Result<HandOut, Misread>
+        ensures { IfOk result (λ c. ReadsNamed string_bytes words.old.words.items words.new.words.items c.check c.station) }
+    {
         Ok(HandOut {
             room: words.option("buf=")?,
             check: words.name()?,

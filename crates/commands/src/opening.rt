@@ -1,4 +1,6 @@
 // `open`: opening a check.
+ghost use Rattle.std.specs.Prelude.{◌≡◌, IfOk, IfSome, string_bytes};
+ghost use Rattle.commands.specs.Typed.{ReadsOpen, scheme_name};
 
 use crate::answer::{Answer, Reply};
 use crate::any_check::AnyCheck;
@@ -30,6 +32,18 @@ pub(crate) enum Scheme {
     One,
 }
 
+impl Scheme {
+    pub(crate) fn named(text: &str) -> Option<Scheme>
+        ensures { IfSome result (λ scheme. text.now ≡ scheme_name scheme) }
+    {
+        match text {
+            "two" => Some(Scheme::Two),
+            "one" => Some(Scheme::One),
+            _ => None,
+        }
+    }
+}
+
 // The stage of a check in any of the fields.
 #[derive(Drop)]
 enum AnyStage {
@@ -52,7 +66,10 @@ pub(crate) struct Open {
 }
 
 impl Open {
-    pub(crate) fn read(words: &mut Words) -> Result<Open, Misread> {
+    pub(crate) fn read(words: &mut Words) -> Result<Open, Misread>
+        ensures { IfOk result (λ c. ReadsOpen string_bytes words.old.words.items words.new.words.items
+            c.name c.own c.number c.stations c.pages c.bound c.scheme) }
+    {
         Ok(Open {
             room: words.option("tally=")?,
             name: words.name()?,

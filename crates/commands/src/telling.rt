@@ -1,4 +1,5 @@
 // `verdict` and `counts`: what a check tells.
+ghost use Rattle.std.specs.Prelude.{◌≡◌, ◌∷◌, IfOk};
 
 use crate::answer::{Answer, Reply};
 use crate::console::Console;
@@ -20,7 +21,9 @@ pub(crate) struct TellCounts {
 }
 
 impl TellVerdict {
-    pub(crate) fn read(words: &mut Words) -> Result<TellVerdict, Misread> {
+    pub(crate) fn read(words: &mut Words) -> Result<TellVerdict, Misread>
+        ensures { IfOk result (λ c. words.old.words.items ≡ c.check ∷ words.new.words.items) }
+    {
         Ok(TellVerdict {
             check: words.name()?,
         })
@@ -36,7 +39,9 @@ impl TellVerdict {
 }
 
 impl TellCounts {
-    pub(crate) fn read(words: &mut Words) -> Result<TellCounts, Misread> {
+    pub(crate) fn read(words: &mut Words) -> Result<TellCounts, Misread>
+        ensures { IfOk result (λ c. words.old.words.items ≡ c.check ∷ words.new.words.items) }
+    {
         Ok(TellCounts {
             check: words.name()?,
         })

@@ -1,4 +1,5 @@
 // `weigh` and `settle`: ending an asking.
+ghost use Rattle.std.specs.Prelude.{◌≡◌, ◌∷◌, IfOk};
 
 use crate::answer::{Answer, Reply};
 use crate::checks::OpenCheck;
@@ -37,7 +38,9 @@ pub(crate) enum EndCall {
 }
 
 impl Weigh {
-    pub(crate) fn read(words: &mut Words) -> Result<Weigh, Misread> {
+    pub(crate) fn read(words: &mut Words) -> Result<Weigh, Misread>
+        ensures { IfOk result (λ c. words.old.words.items ≡ c.check ∷ words.new.words.items) }
+    {
         Ok(Weigh {
             room: words.option("tally=")?,
             check: words.name()?,
@@ -50,7 +53,9 @@ impl Weigh {
 }
 
 impl Settle {
-    pub(crate) fn read(words: &mut Words) -> Result<Settle, Misread> {
+    pub(crate) fn read(words: &mut Words) -> Result<Settle, Misread>
+        ensures { IfOk result (λ c. words.old.words.items ≡ c.check ∷ words.new.words.items) }
+    {
         Ok(Settle {
             room: words.option("tally=")?,
             check: words.name()?,

@@ -1,5 +1,6 @@
 // The words of a line behind the first, read one after the other; and its options, which may stand anywhere among them.
-ghost use Rattle.std.specs.Prelude.{◌≡◌, ◌++◌, ◌∷◌, IfOk, option_to_list};
+ghost use Rattle.std.specs.Prelude.{◌≡◌, ◌∷◌, IfOk, Ok, string_bytes};
+ghost use Rattle.commands.specs.Typed.{ReadsWord, scheme_name};
 
 use crate::digits;
 use crate::misread::{Misread, Part};
@@ -82,6 +83,8 @@ impl Words {
     pub(crate) fn number<N: FromStr>(&mut self) -> Result<N, Misread>
     where
         N::Err: Drop,
+        ensures { IfOk result (λ n. ReadsWord string_bytes self.old.words.items self.new.words.items
+            (λ text. N.from_str_gives text (Ok n))) }
     {
         let word = self.due(Part::Number)?;
         match digits::decimal(word.as_str()) {
@@ -106,12 +109,14 @@ impl Words {
         }
     }
 
-    pub(crate) fn scheme(&mut self) -> Result<Scheme, Misread> {
+    pub(crate) fn scheme(&mut self) -> Result<Scheme, Misread>
+        ensures { IfOk result (λ scheme. ReadsWord string_bytes self.old.words.items self.new.words.items
+            (λ text. text ≡ scheme_name scheme)) }
+    {
         let word = self.due(Part::Scheme)?;
-        match word.as_str() {
-            "two" => Ok(Scheme::Two),
-            "one" => Ok(Scheme::One),
-            _ => Err(Misread::Wrong(word, Part::Scheme)),
+        match Scheme::named(word.as_str()) {
+            Some(scheme) => Ok(scheme),
+            None => Err(Misread::Wrong(word, Part::Scheme)),
         }
     }
 

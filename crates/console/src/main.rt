@@ -2,16 +2,18 @@
 #![tactic(auto)]
 
 use commands::{Console, Mode};
-use std::io::{BufRead, Write};
 use std::{env, io};
 
 fn read_mode(rt: &HostRuntime) -> io::Result<Option<Mode>> {
     let mut words = env::args(rt)?.skip(1);
-    Ok(match (words.next(), words.next()) {
-        (None, None) => Some(Mode::Commands),
-        (Some(word), None) if word.as_str() == "--transcript" => Some(Mode::Transcript),
-        _ => None,
-    })
+    let Some(word) = words.next() else {
+        return Ok(Some(Mode::Commands));
+    };
+    if word.as_str() == "--transcript" && words.next().is_none() {
+        Ok(Some(Mode::Transcript))
+    } else {
+        Ok(None)
+    }
 }
 
 fn main(rt: HostRuntime) -> io::Result<()> {
