@@ -64,7 +64,7 @@ extern "C" {
 #define WULAMBEY_TALLY_WORDS(stations, pages) ((stations) * ((pages) + WULAMBEY_SUMS))
 
 /* The bytes of stack that suffice for each call, whatever it is handed: measured by hosts/stack/run. */
-#define WULAMBEY_STACK 1441792
+#define WULAMBEY_STACK 262144
 
 /* One page of a solution, with its code, which is not 0. */
 typedef struct {

@@ -107,7 +107,7 @@ pub const MOST_SUMS: usize = 128;
 /// The places of a list of `wulambey_solve`.
 pub const LIST_PLACES: usize = 129;
 /// The bytes of stack that suffice for each call of the library, as the header has them; the buffers of this module are on the heap.
-pub const STACK: usize = 1_441_792;
+pub const STACK: usize = 262_144;
 /// The most words of a reply, and bytes of a text.
 const REPLY_WORDS: usize = 4 + MOST_PAGES;
 const TEXT_BYTES: usize = 8 * 255 * 6 + 16;
