@@ -1,16 +1,15 @@
 -- What a lent station means: what its kind means.
 use Rattle.std.specs.Prelude.{ℕ, ◌<◌, List}
-use Rattle.field.specs.Field.{Ops, Laws}
 use Rattle.field.specs.Sums.{entry}
-use Rattle.station.specs.Kinds.{card_row, job_row}
-use Rattle.station.specs.Codes.{card_codes, job_codes}
 use Rattle.commands.specs.declared.holding.Lent.{Lent}
 use Rattle.commands.specs.declared.holding.Lent.TheVariants as lent
 
-abbrev pub lent_row : {F : Type 0} → Ops → Lent F → List ℕ
-lent_row f (lent.Card card) = card_row f card.words.now
-lent_row f (lent.Shelf shelf) = job_row f shelf.page_length shelf.pages shelf.job.now
+abbrev pub lent_row : {C S : Type 0} → (card_row : C → List ℕ) → (shelf_row : S → List ℕ) → Lent C S → List ℕ
+lent_row card_row shelf_row (lent.Card card) = card_row card
+lent_row card_row shelf_row (lent.Shelf shelf) = shelf_row shelf
 
-pub lent_codes : {F : Type 0} {f : Ops} → Laws f → (station : Lent F) (page : ℕ) → entry (lent_row f station) page < f.size
-lent_codes l (lent.Card card) page = card_codes l card.words.now page
-lent_codes l (lent.Shelf shelf) page = job_codes l shelf.page_length shelf.pages shelf.job.now page
+pub lent_codes : {C S : Type 0} (card_row : C → List ℕ) (shelf_row : S → List ℕ) (size : ℕ)
+    → ((card : C) (page : ℕ) → entry (card_row card) page < size) → ((shelf : S) (page : ℕ) → entry (shelf_row shelf) page < size)
+    → (station : Lent C S) (page : ℕ) → entry (lent_row card_row shelf_row station) page < size
+lent_codes card_row shelf_row size card_codes shelf_codes (lent.Card card) page = card_codes card page
+lent_codes card_row shelf_row size card_codes shelf_codes (lent.Shelf shelf) page = shelf_codes shelf page

@@ -12,16 +12,16 @@ pub(crate) enum Holding {
     Shelf { length: usize, job: Vec<u8> },
 }
 
-// The same as a station of the library, over a field.
+// The same as a station of the library: each kind is a type parameter.
 #[derive(Drop)]
-pub(crate) enum Lent<'a, F> {
-    Card(Card<'a, F>),
-    Shelf(Shelf<'a, F>),
+pub(crate) enum Lent<C, S> {
+    Card(C),
+    Shelf(S),
 }
 
 impl Holding {
     // Refused as making the station is.
-    pub(crate) fn lend<F: Field>(&self) -> Result<Lent<'_, F>, Refusal> {
+    pub(crate) fn lend<F: Field>(&self) -> Result<Lent<Card<'_, F>, Shelf<'_, F>>, Refusal> {
         match self {
             Holding::Card(words) => Ok(Lent::Card(Card::new(words.as_slice())?)),
             Holding::Shelf { length, job } => {
@@ -31,12 +31,12 @@ impl Holding {
     }
 }
 
-impl<'a, F: Field> Station<F> for Lent<'a, F> {
+impl<F: Field, C: Station<F>, S: Station<F>> Station<F> for Lent<C, S> {
     ghost use Rattle.commands.specs.Lent.{lent_row, lent_codes};
 
-    ghost row = { lent_row F.Field.ops };
+    ghost row = { lent_row C.Station.row S.Station.row };
 
-    ghost codes = { lent_codes F.Field.lawful };
+    ghost codes = { lent_codes C.Station.row S.Station.row F.Field.ops.size C.Station.codes S.Station.codes };
 
     fn page_count(&self) -> usize {
         match self {
