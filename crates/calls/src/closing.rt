@@ -42,7 +42,8 @@ impl Book {
     fn lowest_lacking(&self) -> Option<u32>
         ensures { MatchOption result ((s : ℕ) → Lacking self.now s → ⊥) (λ s. LowestAt (Lacking self.now) s) }
     {
-        (2..=self.terms.farm.stations as u32).find(|station| self.standing(*station) != Standing::Done)
+        (2..=self.terms.farm.stations as u32).find(|station| self.standing(*station)
+            != Standing::Done)
     }
 }
 

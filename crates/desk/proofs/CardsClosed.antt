@@ -1,5 +1,5 @@
 -- How a check of cards ends: by weighing, or by one more exchange and settling.
-use Rattle.std.proofs.Common.{◌≡◌, ℕ, suc, ◌+◌, ◌-◌, ◌*◌, ◌≤◌, ◌<◌, ◌≢◌, ◌⊎◌, List, ◌∷◌, length, Some, None, inl, inr, zero-add, sym, refl, ap, ap₂, ◌∙◌, subst, arith}
+use Rattle.std.proofs.Common.{◌≡◌, ℕ, suc, ◌+◌, ◌-◌, ◌*◌, ◌≤◌, ◌<◌, ◌≢◌, ◌⊎◌, List, ◌∷◌, length, Some, inl, inr, zero-add, sym, refl, ap, ap₂, ◌∙◌, subst, arith}
 use Rattle.field.specs.Field.{Ops, Laws, Spread}
 use native.Mathlib.Decide.{ℕ_discrete}
 use Rattle.refusal.specs.declared.Refusal.{Refusal}

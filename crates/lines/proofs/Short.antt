@@ -1,5 +1,5 @@
 -- How long the line of a refusal is at most.
-use Rattle.std.proofs.Common.{ℕ, ◌+◌, ◌<◌, ◌≤◌, ◌^◌, List, ◌++◌, length, decimal, codes, arith, length-append, lit<}
+use Rattle.std.proofs.Common.{◌<◌, ◌≤◌, ◌^◌, length, decimal, arith, length-append, lit<}
 use Rattle.std.proofs.lemmas.Fmt.{length-decimal-le}
 use Rattle.refusal.specs.declared.Refusal.{Refusal}
 use Rattle.refusal.specs.declared.Refusal.TheVariants.{Size, Cramped, Unknown, Out, In, Unasked, Missing, Garbled, Foreign, Stray, Range, Silent}

@@ -1,5 +1,5 @@
 -- What holds of three stations, as what holds of any number.
-use Rattle.std.proofs.Common.{◌≡◌, ℕ, ◌≤◌, List, length, sym, ap, ◌∙◌, subst, inl, inr}
+use Rattle.std.proofs.Common.{◌≡◌, ℕ, ◌≤◌, List, sym, subst, inl, inr}
 use Rattle.field.specs.Field.{Ops}
 use Rattle.scheme.specs.Askings.{first_sums}
 use Rattle.scheme.specs.Farm.{Table}

@@ -1,4 +1,4 @@
-use Rattle.std.proofs.Common.{◌≡◌, ℕ, ◌+◌, ◌-◌, ◌<◌, ◌≤◌, get_or, ap, sym, ◌∙◌, subst, arith}
+use Rattle.std.proofs.Common.{◌≡◌, ℕ, ◌+◌, ◌-◌, ◌<◌, get_or, ap, sym, ◌∙◌, subst, arith}
 use Rattle.algebra.specs.Vectors.{Page}
 use Rattle.field.specs.Sums.{entry}
 use Rattle.solve.specs.Solution.{Enough}
