@@ -32,5 +32,5 @@ mod weighing;
 mod words;
 
 pub use console::Console;
-pub use conversing::converse;
+pub use conversing::{Failure, converse};
 pub use replaying::Mode;
