@@ -108,7 +108,7 @@ uint32_t wulambey_serve_job(uint32_t field, const uint8_t *job, size_t job_len, 
 
 /* The findings on a farm of cards in the small field. input: the bytes M, N, f, then M times N signatures, station by station. All bytes that
    the program wulambey writes for them are at the front of text, *count of them: lines `station page`, or `split page`, or `over`, then `sums
-   count`; where the farm is refused, the line `refused NUMBER PLACE`. No memory is needed.
+   count`; where the farm is refused, the line `refused NUMBER PLACE`.
    Refused: a text buffer that is too short for these bytes (2, place 2); nothing is written then. */
 uint32_t wulambey_findings(const uint8_t *input, size_t input_len, uint8_t *text, size_t text_len, size_t *count, size_t *place);
 
