@@ -57,7 +57,7 @@ extern "C" {
 #define WULAMBEY_CARD_WORDS 1920
 #define WULAMBEY_REPLY_WORDS (4 + 1920)
 #define WULAMBEY_LIST_PLACES 129
-#define WULAMBEY_TEXT_BYTES (8 * 255 * 6 + 16)
+#define WULAMBEY_TEXT_BYTES (8 * 255 * 6 + 26)
 
 /* How many sums a station tells, and the words of a tally. */
 #define WULAMBEY_SUMS 128

@@ -110,7 +110,7 @@ pub const LIST_PLACES: usize = 129;
 pub const STACK: usize = 262_144;
 /// The most words of a reply, and bytes of a text.
 const REPLY_WORDS: usize = 4 + MOST_PAGES;
-const TEXT_BYTES: usize = 8 * 255 * 6 + 16;
+const TEXT_BYTES: usize = 8 * 255 * 6 + 26;
 
 /// The fields, with their numbers in the calls.
 #[derive(Clone, Copy, PartialEq, Eq, Debug)]
