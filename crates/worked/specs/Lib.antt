@@ -1,3 +1,4 @@
 pub mod Examples
 pub mod Checks
+pub mod Limits
 pub mod Worked
