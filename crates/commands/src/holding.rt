@@ -32,11 +32,9 @@ impl Holding {
 }
 
 impl<F: Field, C: Station<F>, S: Station<F>> Station<F> for Lent<C, S> {
-    ghost use Rattle.commands.specs.Lent.{lent_row, lent_codes};
+    ghost use Rattle.commands.specs.Lent.{lent_row};
 
     ghost row = { lent_row C.Station.row S.Station.row };
-
-    ghost codes = { lent_codes C.Station.row S.Station.row F.Field.ops.size C.Station.codes S.Station.codes };
 
     fn page_count(&self) -> usize {
         match self {

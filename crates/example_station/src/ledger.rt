@@ -1,7 +1,6 @@
 // A station of one's own: the signatures of a copy's pages, kept in a `Vec`.
 ghost use Rattle.std.specs.Prelude.{◌≡◌};
 ghost use Rattle.station.specs.Kinds.{card_row};
-ghost use Rattle.station.specs.Codes.{card_codes};
 
 use field::Field;
 use refusal::Refusal;
@@ -30,9 +29,6 @@ impl<F: Field> Ledger<F> {
 impl<F: Field> Station<F> for Ledger<F> {
     // What the station means: a code for each page. All that it answers is proved of this row.
     ghost row = { λ ledger. card_row F.Field.ops ledger.words.items };
-
-    // Why each entry of the row is a code.
-    ghost codes = { λ ledger page. card_codes F.Field.lawful ledger.words.items page };
 
     fn page_count(&self) -> usize {
         self.words.len()

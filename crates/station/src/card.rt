@@ -2,7 +2,6 @@
 ghost use Rattle.std.specs.Prelude.{◌≡◌, length, MatchResult};
 ghost use Rattle.refusal.specs.Rules.{Refused, Accepted};
 ghost use Rattle.station.specs.Kinds.{making_card, card_row};
-ghost use Rattle.station.specs.Codes.{card_codes};
 
 use crate::questions::accept_index;
 use crate::trait_station::Station;
@@ -35,8 +34,6 @@ impl<'a, F: Field> Card<'a, F> {
 
 impl<'a, F: Field> Station<F> for Card<'a, F> {
     ghost row = { λ card. card_row F.Field.ops card.words.now };
-
-    ghost codes = { λ card page. card_codes F.Field.lawful card.words.now page };
 
     fn page_count(&self) -> usize {
         self.words.len()

@@ -13,5 +13,5 @@ pub use field::SUM_LIMIT;
 pub use questions::accept_index;
 pub use serving::serve;
 pub use shelf::Shelf;
-pub use theorems::{ends_agree, station_agrees};
+pub use theorems::{ends_agree, holds_codes, station_agrees};
 pub use trait_station::Station;

@@ -83,7 +83,7 @@ fn write_answers<F: Field, S: Station<F>>(station: &S, request: &Request, values
 }
 
 // One answer, within the range.
-fn ask<F: Field, S: Station<F>>(station: &S, asked: Asked, index: usize) -> u32
+pub(crate) fn ask<F: Field, S: Station<F>>(station: &S, asked: Asked, index: usize) -> u32
     requires from { 1 ≤ index }
     requires to { index ≤ index_limit asked (S.Station.row station.now) }
     ensures value { result ≡ answer F.Field.ops (S.Station.row station.now) asked index }

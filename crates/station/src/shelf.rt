@@ -3,7 +3,6 @@ ghost use Rattle.std.specs.Prelude.{◌≡◌, length, MatchResult};
 ghost use Rattle.refusal.specs.Rules.{Refused, Accepted};
 ghost use Rattle.page.specs.Pages.{cutting, page_count};
 ghost use Rattle.station.specs.Kinds.{job_row};
-ghost use Rattle.station.specs.Codes.{job_codes};
 
 use crate::questions::accept_index;
 use crate::trait_station::Station;
@@ -42,9 +41,6 @@ impl<'a, F: Field> Shelf<'a, F> {
 
 impl<'a, F: Field> Station<F> for Shelf<'a, F> {
     ghost row = { λ shelf. job_row F.Field.ops shelf.cut.page_length shelf.cut.pages shelf.job.now };
-
-    ghost codes = { λ shelf page.
-        job_codes F.Field.lawful shelf.cut.page_length shelf.cut.pages shelf.job.now page };
 
     fn page_count(&self) -> usize {
         self.cut.pages()

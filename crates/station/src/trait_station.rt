@@ -8,7 +8,7 @@ use field::Field;
 use refusal::Refusal;
 
 /// A station holds one copy of a job: it means the signatures of its pages, and a question changes nothing
-/// (docs/RULES.md, "Stations"). `Card` and `Shelf` are stations; another one shows the law `codes`.
+/// (docs/RULES.md, "Stations"). `Card` and `Shelf` are stations; a type of one's own can be another.
 pub trait Station<F: Field> {
     // the signatures of the pages 1 to N
     ghost row: { Self → List ℕ };
@@ -30,7 +30,4 @@ pub trait Station<F: Field> {
             (λ value. Accepted (asking_sum j)
             × (value ≡ power_sum F.Field.ops (length (row self.now)) (entry (row self.now)) j) × (value < F.Field.ops.size))
             (Refused (asking_sum j)) };
-
-    // Every entry of the row is a code: what is served to any request reads back by this.
-    ghost codes: { (station : Self) (page : ℕ) → entry (row station) page < F.Field.ops.size };
 }
