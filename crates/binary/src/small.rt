@@ -7,12 +7,28 @@ ghost use Rattle.binary.specs.Fields.{small_degree, small_laws, small_spread};
 use crate::binary_field::Binary;
 use crate::modulus::Modulus;
 use crate::powers::POWERS;
+use std::marker::PhantomData;
 
 /// x^8 + x^4 + x^3 + x^2 + 1, with its 255 places.
+#[derive(Clone, Copy, PartialEq, Eq)]
 pub struct SmallModulus;
 
 /// The field of 256 elements, with alpha = 2. A job has at most 255 pages in it.
 pub type Small = Binary<SmallModulus>;
+
+/// The one value of the field's type, and a pattern of it.
+pub const Small: Small = Binary {
+    modulus: PhantomData,
+};
+
+// For an array's length and a pattern, where a constant of the impl for every modulus can't stand.
+impl Small {
+    /// How many elements the field has.
+    pub const SIZE: u32 = 256;
+
+    /// How many places for pages the field has.
+    pub const PLACES: usize = 255;
+}
 
 impl Modulus for SmallModulus {
     const WIDTH: u32 = 8;
@@ -23,11 +39,11 @@ impl Modulus for SmallModulus {
 
     ghost POLY = { 285 };
 
-    const SIZE: u32 = 256;
+    const SIZE: u32 = Small::SIZE;
 
     ghost SIZE = { 256 };
 
-    const PLACES: usize = 255;
+    const PLACES: usize = Small::PLACES;
 
     ghost PLACES = { 255 };
 

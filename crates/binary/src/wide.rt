@@ -6,12 +6,28 @@ ghost use Rattle.binary.specs.Fields.{wide_degree, wide_laws, wide_spread};
 use crate::binary_field::Binary;
 use crate::modulus::Modulus;
 use field::PAGE_LIMIT;
+use std::marker::PhantomData;
 
 /// x^16 + x^12 + x^3 + x + 1, with its 1,920 places.
+#[derive(Clone, Copy, PartialEq, Eq)]
 pub struct WideModulus;
 
 /// The field of 65,536 elements, with alpha = 2.
 pub type Wide = Binary<WideModulus>;
+
+/// The one value of the field's type, and a pattern of it.
+pub const Wide: Wide = Binary {
+    modulus: PhantomData,
+};
+
+// As for `Small`, where a constant of the impl for every modulus can't stand.
+impl Wide {
+    /// How many elements the field has.
+    pub const SIZE: u32 = 65536;
+
+    /// How many places for pages the field has.
+    pub const PLACES: usize = PAGE_LIMIT;
+}
 
 impl Modulus for WideModulus {
     const WIDTH: u32 = 16;
@@ -22,11 +38,11 @@ impl Modulus for WideModulus {
 
     ghost POLY = { 69643 };
 
-    const SIZE: u32 = 65536;
+    const SIZE: u32 = Wide::SIZE;
 
     ghost SIZE = { 65536 };
 
-    const PLACES: usize = PAGE_LIMIT;
+    const PLACES: usize = Wide::PLACES;
 
     ghost PLACES = { PAGE_LIMIT };
 
