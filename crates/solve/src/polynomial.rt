@@ -53,9 +53,9 @@ pub(crate) fn combine<F: Field>(
     difference
 }
 
-// a - c b
+// a - c b. As a product's second factor c is shifted once for all coefficients.
 fn minus_multiple<F: Field>(a: u32, c: u32, b: u32) -> u32
     ensures { result ≡ F.Field.ops.minus a (F.Field.ops.times c b) }
 {
-    F::sub(a, F::mul(c, b))
+    F::sub(a, F::mul(b, c))
 }
