@@ -1,7 +1,6 @@
 pub mod Answering
 pub mod Crossing
 pub mod Found
-pub mod Made
 pub mod Outside
 pub mod Shapes
 pub mod Standing

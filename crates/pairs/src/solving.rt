@@ -62,7 +62,7 @@ pub fn solve_pair<F: Field>(
     requires enough { Enough rows.now.pages weight sums }
     ensures { Answered F.Field.ops rows.now.pages weight sums (gap F.Field.ops (sum_in rows.now.words.now rows.now.pages) s t) difference.new }
 {
-    let values = differences::<F>(rows, s, t);
+    let values = differences::<F>(rows, s, t, sums);
     solve_sums::<F>(rows.pages, &values, sums, weight, difference);
 }
 
@@ -85,10 +85,16 @@ pub fn solve_sums<F: Field>(
     difference.weight = found;
 }
 
-// The first sums of station s minus those of station t.
-fn differences<F: Field>(rows: &Rows, s: usize, t: usize) -> [u32; 128]
+// The first sums of station s minus those of station t; the others are not worked out, and stay 0.
+fn differences<F: Field>(rows: &Rows, s: usize, t: usize, sums: usize) -> [u32; 128]
+    requires { sums ≤ 128 }
     ensures long { length result ≡ 128 }
-    ensures gaps { (k : ℕ) → k < 128 → slice_index result k ≡ gap F.Field.ops (sum_in rows.now.words.now rows.now.pages) s t (k + 1) }
+    ensures gaps { (k : ℕ) → k < sums → slice_index result k
+        ≡ gap F.Field.ops (sum_in rows.now.words.now rows.now.pages) s t (k + 1) }
 {
-    std::array::from_fn(|k| F::sub(rows.sum(s, k + 1), rows.sum(t, k + 1)))
+    let mut values = [0; 128];
+    for (k, value) in values[..sums].iter_mut().enumerate() {
+        *value = F::sub(rows.sum(s, k + 1), rows.sum(t, k + 1));
+    }
+    values
 }
