@@ -1,4 +1,4 @@
-use Rattle.std.proofs.Common.{◌≡◌, ℕ, ◌+◌, ◌-◌, ◌≢◌, ◌⊎◌, List, get_or, inl, inr, refl, subst, ap, ◌∙◌, arith}
+use Rattle.std.proofs.Common.{◌≡◌, ℕ, ◌+◌, ◌-◌, ◌≢◌, ◌⊎◌, List, get_or, inl, inr, refl, subst, ap, ◌∙◌, arith, rules}
 use Rattle.solve.specs.Answer.{blank, code_at}
 use Rattle.tally.specs.Rows.{signature_in, RowPut}
 use Rattle.tally.proofs.RowPutting.{row_turn}
@@ -39,5 +39,5 @@ loop-before-preserved g c =
     let before = subst (λ b. RowPut N b c.args.to c.args.tally.now c.loop-before.tally (λ n. f.minus (signature_in c.args.tally.now N c.args.from n) (code_at list n))) same c.loop-before.invariant.1 in (
       λ m h. (turns N m list h k p (omega arith) (c.loop-before.invariant.0 m h) next code way).0,
       row_turn f N c.args.from c.args.to p p (code_at list) c.args.tally.now c.loop-before.tally c.put_signature.new.tally (omega arith) (omega arith) refl before
-          c.signature-signature.result code c.sub.result read told c.sub.ensures c.put_signature.ensures,
+          c.signature-signature.result code _ read told (search rules) c.put_signature.ensures,
     )
