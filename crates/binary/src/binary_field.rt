@@ -8,10 +8,8 @@ use field::Field;
 use std::marker::PhantomData;
 
 /// The field of the words of WIDTH bits; sums are without carry, products modulo the polynomial.
-// `Eq` by derive, without which `Small` and `Wide` could not be patterns.
-#[derive(Clone, Copy, PartialEq, Eq)]
 pub struct Binary<M> {
-    pub(crate) modulus: PhantomData<M>,
+    modulus: PhantomData<M>,
 }
 
 impl<M: Modulus> Field for Binary<M> {

@@ -7,28 +7,17 @@ ghost use Rattle.binary.specs.Fields.{small_degree, small_laws, small_spread};
 use crate::binary_field::Binary;
 use crate::modulus::Modulus;
 use crate::powers::POWERS;
-use std::marker::PhantomData;
+use field::Field;
 
 /// x^8 + x^4 + x^3 + x^2 + 1, with its 255 places.
-#[derive(Clone, Copy, PartialEq, Eq)]
 pub struct SmallModulus;
 
 /// The field of 256 elements, with alpha = 2. A job has at most 255 pages in it.
-pub type Small = Binary<SmallModulus>;
+#[derive(Clone, Copy, PartialEq, Eq)]
+pub struct Small;
 
-/// The one value of the field's type, and a pattern of it.
-pub const Small: Small = Binary {
-    modulus: PhantomData,
-};
-
-// For an array's length and a pattern, where a constant of the impl for every modulus can't stand.
-impl Small {
-    /// How many elements the field has.
-    pub const SIZE: u32 = 256;
-
-    /// How many places for pages the field has.
-    pub const PLACES: usize = 255;
-}
+// The field over the modulus, whose calls reckon.
+type Words = Binary<SmallModulus>;
 
 impl Modulus for SmallModulus {
     const WIDTH: u32 = 8;
@@ -39,11 +28,11 @@ impl Modulus for SmallModulus {
 
     ghost POLY = { 285 };
 
-    const SIZE: u32 = Small::SIZE;
+    const SIZE: u32 = 256;
 
     ghost SIZE = { 256 };
 
-    const PLACES: usize = Small::PLACES;
+    const PLACES: usize = 255;
 
     ghost PLACES = { 255 };
 
@@ -59,5 +48,52 @@ impl Modulus for SmallModulus {
         ensures { result ≡ Some (power small 2 n) }
     {
         Some(POWERS[n % 255] as u32)
+    }
+}
+
+// An `impl` of its own: a constant of the one for every modulus can be neither an array's length nor a pattern.
+impl Field for Small {
+    const SIZE: u32 = SmallModulus::SIZE;
+
+    ghost SIZE = { 256 };
+
+    const PLACES: usize = SmallModulus::PLACES;
+
+    ghost PLACES = { 255 };
+
+    const ALPHA: u32 = 2;
+
+    ghost ALPHA = { 2 };
+
+    ghost ops = { small };
+
+    ghost named = { record { size_is = refl; places_are = refl; alpha_is = refl } };
+
+    ghost lawful = { small_laws };
+
+    ghost spread = { small_spread };
+
+    fn add(a: u32, b: u32) -> u32 {
+        Words::add(a, b)
+    }
+
+    fn sub(a: u32, b: u32) -> u32 {
+        Words::sub(a, b)
+    }
+
+    fn mul(a: u32, b: u32) -> u32 {
+        Words::mul(a, b)
+    }
+
+    fn inv(a: u32) -> u32 {
+        Words::inv(a)
+    }
+
+    fn alpha_add(a: u32, c: u32) -> u32 {
+        Words::alpha_add(a, c)
+    }
+
+    fn alpha_pow(n: usize) -> u32 {
+        Words::alpha_pow(n)
     }
 }
